@@ -1,0 +1,25 @@
+-- A table's rule by one test that the checker computes: what the test finds of every entry holds of each.
+-- Assumes nothing.
+use Prim.Native.Nat.{ℕ, zero, suc, _+_, _<_}
+use mathlib.Core.Path.{_≡_, _∙_, subst, sym}
+use mathlib.Core.Bool.{Bool, true, _&&_}
+use mathlib.Core.List.{List, [], _∷_}
+use native.Mathlib.Nat.{add-zero, zero-add, add-suc, suc-add, le-of-suc-le-suc, not-suc-le-zero}
+use lib.Dec.{T}
+use lib.ListN.{length, getD}
+use mir.Facts.{and-yes}
+
+-- the test f passes at each entry of the list and its place, counted from i
+abbrev pub every : {A : Type 0} → (ℕ → A → Bool) → ℕ → List A → Bool
+every f i [] = true
+every f i (x ∷ xs) = f i x && every f (suc i) xs
+
+from : {A : Type 0} (d : A) (f : ℕ → A → Bool) (xs : List A) (i : ℕ) → T (every f i xs) → (k : ℕ) → k < length xs → T (f (i + k) (getD xs k d))
+from d f [] i t k h = absurd (not-suc-le-zero h)
+from d f (x ∷ xs) i t zero h = rw add-zero (and-yes (f i x) (every f (suc i) xs) t .0)
+from d f (x ∷ xs) i t (suc k) h =
+    subst (λ (m : ℕ). T (f m (getD xs k d))) (suc-add i k ∙ sym (add-suc i k))
+    (from d f xs (suc i) (and-yes (f i x) (every f (suc i) xs) t .1) k (le-of-suc-le-suc h))
+
+pub every-at : {A : Type 0} (d : A) (f : ℕ → A → Bool) (xs : List A) → T (every f 0 xs) → (k : ℕ) → k < length xs → T (f k (getD xs k d))
+every-at d f xs t k h = subst (λ (m : ℕ). T (f m (getD xs k d))) (zero-add k) (from d f xs 0 t k h)

@@ -1,0 +1,8 @@
+-- What it is for a contract to leave one answer.
+-- Assumes nothing.
+use mathlib.Core.Path.{_≡_}
+
+-- A contract, as the checker reads it off the source (`Post`), speaks of the lifetimes, the arguments, the answer, and what was lent
+-- as it stands at the end. It leaves one answer where any two that meet it for the same arguments are the same.
+abbrev pub OneAnswer : {K : Type 0} {Args : K → Type 0} {Answer : K → Type 0} {End : K → Type 0} → ((κ : K) → Args κ → Answer κ → End κ → Type 0) → Type 0
+OneAnswer {K} {Args} {Answer} {End} post = (κ : K) (a : Args κ) (z z′ : Answer κ) (e e′ : End κ) → post κ a z e → post κ a z′ e′ → z ≡ z′

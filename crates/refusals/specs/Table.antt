@@ -1,0 +1,39 @@
+-- "What is turned away": the number of each refusal, and the values that its row names.
+-- Assumes nothing.
+use Prim.Native.Nat.{ℕ}
+use mathlib.Core.List.{List, [], _∷_}
+use Rattle.refusals.specs.declared.Refusal.{Refusal}
+use Rattle.refusals.specs.declared.Refusal.the-variants.{Short, Format, Demux, Digit, Range, Length, Descriptor, Four, Size, Skew, Index, Sheet, Room, Long, Block, Sync, Timing, Phase, Part, Open, Missing, Large, State}
+
+-- a row's number, and its values in the row's order
+pub record Said : Type 0 where
+  pub number : ℕ
+  pub values : List ℕ
+
+abbrev row : ℕ → List ℕ → Said
+row n vs = record { number = n; values = vs }
+
+abbrev pub said : Refusal → Said
+said Short = row 1 []
+said Format = row 2 []
+said Demux = row 3 []
+said Digit = row 4 []
+said Range = row 5 []
+said Length = row 6 []
+said (Descriptor t s) = row 7 (t ∷ s ∷ [])
+said (Four t s) = row 8 (t ∷ s ∷ [])
+said (Size t) = row 9 (t ∷ [])
+said Skew = row 10 []
+said Index = row 11 []
+said Sheet = row 12 []
+said Room = row 13 []
+said (Long p) = row 14 (p ∷ [])
+said (Block p) = row 15 (p ∷ [])
+said (Sync p) = row 16 (p ∷ [])
+said (Timing p) = row 17 (p ∷ [])
+said (Phase p) = row 18 (p ∷ [])
+said Part = row 19 []
+said Open = row 20 []
+said Missing = row 21 []
+said Large = row 22 []
+said State = row 23 []
