@@ -2,7 +2,9 @@
 -- Assumes nothing.
 use Prim.Native.Nat.{ℕ}
 use mathlib.Core.List.{List, [], _∷_}
+use lib.ListN.{getD}
 use Rattle.refusals.specs.declared.Refusal.{Refusal}
+use Rattle.refusals.specs.declared.Told.{Told}
 use Rattle.refusals.specs.declared.Refusal.the-variants.{Short, Format, Demux, Digit, Range, Length, Descriptor, Four, Size, Skew, Index, Sheet, Room, Long, Block, Sync, Timing, Phase, Part, Open, Missing, Large, State}
 
 -- a row's number, and its values in the row's order
@@ -37,3 +39,7 @@ said Open = row 20 []
 said Missing = row 21 []
 said Large = row 22 []
 said State = row 23 []
+
+-- the same as three numbers
+abbrev pub told : Refusal → Told
+told r = record { number = said r .number; first = getD (said r .values) 0 0; second = getD (said r .values) 1 0 }

@@ -1,4 +1,6 @@
 // What is turned away: the rows of the description's table, by name, each with the values that its row names.
+ghost use mathlib.Core.Path.{_≡_};
+ghost use Rattle.refusals.specs.Table.{told};
 
 pub enum Refusal {
     Short,
@@ -33,4 +35,51 @@ pub enum Refusal {
 pub enum Fault {
     Clear,
     At(Refusal),
+}
+
+// A refusal in numbers, for a listing or a caller in C: its row's number, and its values in order, 0 where it has fewer.
+pub struct Told {
+    pub number: u32,
+    pub first: u32,
+    pub second: u32,
+}
+
+fn in_row(number: u32, first: u32, second: u32) -> Told
+    ensures { λ t. ⌜ t ≡ (record { number = number; first = first; second = second }) ⌝ }
+{
+    Told {
+        number,
+        first,
+        second,
+    }
+}
+
+pub fn tell(refusal: Refusal) -> Told
+    ensures { λ t. ⌜ t ≡ told refusal ⌝ }
+{
+    match refusal {
+        Refusal::Short => in_row(1, 0, 0),
+        Refusal::Format => in_row(2, 0, 0),
+        Refusal::Demux => in_row(3, 0, 0),
+        Refusal::Digit => in_row(4, 0, 0),
+        Refusal::Range => in_row(5, 0, 0),
+        Refusal::Length => in_row(6, 0, 0),
+        Refusal::Descriptor { scan_type, set } => in_row(7, scan_type as u32, set as u32),
+        Refusal::Four { scan_type, set } => in_row(8, scan_type as u32, set as u32),
+        Refusal::Size { scan_type } => in_row(9, scan_type as u32, 0),
+        Refusal::Skew => in_row(10, 0, 0),
+        Refusal::Index => in_row(11, 0, 0),
+        Refusal::Sheet => in_row(12, 0, 0),
+        Refusal::Room => in_row(13, 0, 0),
+        Refusal::Long { place } => in_row(14, place, 0),
+        Refusal::Block { place } => in_row(15, place, 0),
+        Refusal::Sync { place } => in_row(16, place, 0),
+        Refusal::Timing { place } => in_row(17, place, 0),
+        Refusal::Phase { place } => in_row(18, place, 0),
+        Refusal::Part => in_row(19, 0, 0),
+        Refusal::Open => in_row(20, 0, 0),
+        Refusal::Missing => in_row(21, 0, 0),
+        Refusal::Large => in_row(22, 0, 0),
+        Refusal::State => in_row(23, 0, 0),
+    }
 }
