@@ -6,6 +6,7 @@ use mathlib.Core.Bool.{Bool, true, false, _&&_, _||_}
 use mathlib.Core.List.{List, [], _∷_}
 use native.Mathlib.Omega.{arith}
 use lib.Dec.{T, eqb, leb, eqb→eq}
+use lib.Ieee.Bits.{is-true}
 use mir.Facts.{and-yes}
 use borrow.Author.Tests.{leb-true, eqb-true}
 use Rattle.basis.specs.Choice.{pick}
@@ -75,10 +76,6 @@ sound-fit r e =
       hex = leb-true _ _ (b .1);
       half = leb-true _ _ (a .1);
     }
-
-is-true : (t : Bool) → T t → t ≡ true
-is-true true t = refl
-is-true false t = absurd t
 
 pub row-sound : (code : ℕ) (r : Row) → rowOf code ≡ At r → soundRow r ≡ true
 unfolding rowOf findIn table soundRow

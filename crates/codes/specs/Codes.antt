@@ -13,7 +13,7 @@ use Rattle.codes.specs.declared.Found.{Found}
 use Rattle.codes.specs.declared.Found.the-variants.{At, Nothing}
 
 -- the columns: code, bits on tape, those of an exponent apart, fraction bits, base as a power of two, exponent bits, bias, kind
-abbrev row : ℕ → ℕ → ℕ → ℕ → ℕ → ℕ → ℕ → Kind → Row
+abbrev pub row : ℕ → ℕ → ℕ → ℕ → ℕ → ℕ → ℕ → Kind → Row
 row code width apart n base e bias kind =
     record { code = code; width = width; apart = apart; fraction = n; base = base; exponent = e; bias = bias; kind = kind }
 

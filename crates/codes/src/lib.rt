@@ -33,67 +33,80 @@ pub enum Found {
     Nothing,
 }
 
+// The rows of the multiplexed codes, by name: a reader of one code alone cites its row.
+pub const ROW_15: Row = Row {
+    code: 0x0015,
+    width: 20,
+    apart: 4,
+    fraction: 14,
+    base: 1,
+    exponent: 4,
+    bias: 0,
+    kind: Kind::OnesComplement,
+};
+
+pub const ROW_22: Row = Row {
+    code: 0x0022,
+    width: 8,
+    apart: 0,
+    fraction: 4,
+    base: 2,
+    exponent: 3,
+    bias: 0,
+    kind: Kind::OnesComplement,
+};
+
+pub const ROW_24: Row = Row {
+    code: 0x0024,
+    width: 16,
+    apart: 0,
+    fraction: 12,
+    base: 2,
+    exponent: 3,
+    bias: 0,
+    kind: Kind::OnesComplement,
+};
+
+pub const ROW_42: Row = Row {
+    code: 0x0042,
+    width: 8,
+    apart: 0,
+    fraction: 5,
+    base: 4,
+    exponent: 2,
+    bias: 0,
+    kind: Kind::SignMagnitude,
+};
+
+pub const ROW_44: Row = Row {
+    code: 0x0044,
+    width: 16,
+    apart: 0,
+    fraction: 13,
+    base: 4,
+    exponent: 2,
+    bias: 0,
+    kind: Kind::SignMagnitude,
+};
+
+pub const ROW_48: Row = Row {
+    code: 0x0048,
+    width: 32,
+    apart: 0,
+    fraction: 23,
+    base: 4,
+    exponent: 7,
+    bias: 64,
+    kind: Kind::Justified,
+};
+
 const ROWS: [Row; 12] = [
-    Row {
-        code: 0x0015,
-        width: 20,
-        apart: 4,
-        fraction: 14,
-        base: 1,
-        exponent: 4,
-        bias: 0,
-        kind: Kind::OnesComplement,
-    },
-    Row {
-        code: 0x0022,
-        width: 8,
-        apart: 0,
-        fraction: 4,
-        base: 2,
-        exponent: 3,
-        bias: 0,
-        kind: Kind::OnesComplement,
-    },
-    Row {
-        code: 0x0024,
-        width: 16,
-        apart: 0,
-        fraction: 12,
-        base: 2,
-        exponent: 3,
-        bias: 0,
-        kind: Kind::OnesComplement,
-    },
-    Row {
-        code: 0x0042,
-        width: 8,
-        apart: 0,
-        fraction: 5,
-        base: 4,
-        exponent: 2,
-        bias: 0,
-        kind: Kind::SignMagnitude,
-    },
-    Row {
-        code: 0x0044,
-        width: 16,
-        apart: 0,
-        fraction: 13,
-        base: 4,
-        exponent: 2,
-        bias: 0,
-        kind: Kind::SignMagnitude,
-    },
-    Row {
-        code: 0x0048,
-        width: 32,
-        apart: 0,
-        fraction: 23,
-        base: 4,
-        exponent: 7,
-        bias: 64,
-        kind: Kind::Justified,
-    },
+    ROW_15,
+    ROW_22,
+    ROW_24,
+    ROW_42,
+    ROW_44,
+    ROW_48,
     Row {
         code: 0x8015,
         width: 20,

@@ -1,1 +1,2 @@
 pub mod Uniques
+pub mod Figures

@@ -6,10 +6,20 @@ use Rattle.demands.specs.Unique.{Unique}
 pub unique : Unique
 unique = record {
   difference = λ κ a z z′ e e′. one-answer;
+  magnitude = λ κ a z z′ e e′. one-answer;
+  tell = λ κ a z z′ e e′. one-answer;
   find = λ κ a z z′ e e′. one-answer;
   sound = λ κ a z z′ e e′. one-answer;
   group-in = λ κ a z z′ e e′. one-answer;
   group = λ κ a z z′ e e′. one-answer;
   bits = λ κ a z z′ e e′. one-within;
-  tell = λ κ a z z′ e e′. one-answer;
+  read-word = λ κ a z z′ e e′. one-answer;
+  read = λ κ a z z′ e e′. one-answer;
+  by-byte = λ κ a z z′ e e′. one-answer;
+  value15 = λ κ a z z′ e e′. one-answer;
+  value24 = λ κ a z z′ e e′. one-answer;
+  value44 = λ κ a z z′ e e′. one-answer;
+  value48 = λ κ a z z′ e e′. one-answer;
+  segd-format = λ κ a z z′ e e′. one-answer;
+  segd-read-word = λ κ a z z′ e e′. one-answer;
 }

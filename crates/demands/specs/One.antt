@@ -6,3 +6,8 @@ use mathlib.Core.Path.{_≡_}
 -- as it stands at the end. It leaves one answer where any two that meet it for the same arguments are the same.
 abbrev pub OneAnswer : {K : Type 0} {Args : K → Type 0} {Answer : K → Type 0} {End : K → Type 0} → ((κ : K) → Args κ → Answer κ → End κ → Type 0) → Type 0
 OneAnswer {K} {Args} {Answer} {End} post = (κ : K) (a : Args κ) (z z′ : Answer κ) (e e′ : End κ) → post κ a z e → post κ a z′ e′ → z ≡ z′
+
+-- and one content of what is lent to be written, where any two that meet it leave the same there
+abbrev pub OneContent : {K : Type 0} {Args : K → Type 0} {Answer : K → Type 0} {End : K → Type 0} {Content : Type 0} → ((κ : K) → Args κ → Answer κ → End κ → Type 0) → ((κ : K) → End κ → Content) → Type 0
+OneContent {K} {Args} {Answer} {End} post content =
+    (κ : K) (a : Args κ) (z z′ : Answer κ) (e e′ : End κ) → post κ a z e → post κ a z′ e′ → content κ e ≡ content κ e′

@@ -1,19 +1,40 @@
--- For every function that is open to callers: its contract, as the source has it, leaves one answer.
+-- For every function that is open to callers: its contract, as the source has it, leaves one answer, and one content of what is
+-- lent to be written.
 -- Assumes nothing.
 use Rattle.basis.proofs.difference.Reads as basis-difference
+use Rattle.basis.proofs.magnitude.Reads as basis-magnitude
+use Rattle.refusals.proofs.tell.Reads as refusals-tell
 use Rattle.codes.proofs.find.Reads as codes-find
 use Rattle.codes.proofs.sound.Reads as codes-sound
 use Rattle.codes.proofs.group_in.Reads as codes-group-in
 use Rattle.codes.proofs.group.Reads as codes-group
 use Rattle.codes.proofs.bits.Reads as codes-bits
-use Rattle.refusals.proofs.tell.Reads as refusals-tell
-use Rattle.demands.specs.One.{OneAnswer}
+use Rattle.words.proofs.read_word.Reads as words-read-word
+use Rattle.words.proofs.read.Reads as words-read
+use Rattle.words.proofs.by_byte.Reads as words-by-byte
+use Rattle.words.proofs.value15.Reads as words-value15
+use Rattle.words.proofs.value24.Reads as words-value24
+use Rattle.words.proofs.value44.Reads as words-value44
+use Rattle.words.proofs.value48.Reads as words-value48
+use Rattle.deck.proofs.segd_format.Reads as deck-segd-format
+use Rattle.deck.proofs.segd_read_word.Reads as deck-segd-read-word
+use Rattle.demands.specs.One.{OneAnswer, OneContent}
 
 pub record Unique : Type 0 where
   pub difference : OneAnswer basis-difference.Post
+  pub magnitude : OneAnswer basis-magnitude.Post
+  pub tell : OneAnswer refusals-tell.Post
   pub find : OneAnswer codes-find.Post
   pub sound : OneAnswer codes-sound.Post
   pub group-in : OneAnswer codes-group-in.Post
   pub group : OneAnswer codes-group.Post
   pub bits : OneAnswer codes-bits.Post
-  pub tell : OneAnswer refusals-tell.Post
+  pub read-word : OneAnswer words-read-word.Post
+  pub read : OneAnswer words-read.Post
+  pub by-byte : OneAnswer words-by-byte.Post
+  pub value15 : OneAnswer words-value15.Post
+  pub value24 : OneAnswer words-value24.Post
+  pub value44 : OneAnswer words-value44.Post
+  pub value48 : OneAnswer words-value48.Post
+  pub segd-format : OneAnswer deck-segd-format.Post
+  pub segd-read-word : OneAnswer deck-segd-read-word.Post

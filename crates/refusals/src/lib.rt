@@ -38,6 +38,7 @@ pub enum Fault {
 }
 
 // A refusal in numbers, for a listing or a caller in C: its row's number, and its values in order, 0 where it has fewer.
+#[repr(C)]
 pub struct Told {
     pub number: u32,
     pub first: u32,

@@ -1,0 +1,62 @@
+-- A sample from the parts of its word, and which words of a row are read.
+-- Assumes nothing.
+use Prim.Native.Nat.{ℕ, zero, suc, _+_, _-_, _^_, _<_, _≤_}
+use mathlib.Core.Path.{_≡_, refl, sym, _∙_, ap}
+use mathlib.Core.Bool.{Bool}
+use native.Mathlib.Omega.{arith}
+use lib.IntN.{ℤ}
+use borrow.Author.Tests.{lt-ltb, le-ltb, lt-leb}
+use Rattle.basis.specs.Choice.{pick}
+use Rattle.basis.specs.Fields.{field}
+use Rattle.refusals.specs.declared.Refusal.the-variants.{Index}
+use Rattle.codes.specs.declared.Row.{Row}
+use Rattle.codes.specs.declared.Found.the-variants.{At}
+use Rattle.codes.specs.Codes.{rowOf}
+use Rattle.words.specs.declared.Value.{Value}
+use Rattle.words.specs.declared.Word.the-variants.{Sample, Refused}
+use Rattle.words.specs.Words.{fractionOf, powerOf, offRule, sampleIn, wordIn, wordOf, valued, valueOf, signIn, fractionIn, lastIn, spareOf}
+
+pub from-parts : (r : Row) (c word : ℕ) {s e q last : ℕ} {m x : ℤ} {off : Bool}
+    → s ≡ signIn r word
+    → e ≡ field word (spareOf r + r .fraction) (r .exponent - r .apart)
+    → q ≡ fractionIn r word
+    → last ≡ lastIn r word
+    → m ≡ fractionOf (r .kind) (r .fraction) s q
+    → x ≡ powerOf (r .base) (r .bias) (r .fraction) (c + e)
+    → off ≡ offRule (r .kind) (r .fraction) (r .exponent) last s (c + e) q
+    → Sample m x off ≡ sampleIn r c word
+unfolding sampleIn
+from-parts r c word hs he hq hl hm hx ho = rw (hm, hx, ho, hs, he, hq, hl)
+
+pub same-sample : {m m′ x x′ : ℤ} {o o′ : Bool} → m ≡ m′ → x ≡ x′ → o ≡ o′ → Sample m x o ≡ Sample m′ x′ o′
+same-sample p q s = cc
+
+-- a code's word is its row's, and one that is no wider than the code's is read
+module _ (code : ℕ) (r : Row) (e : rowOf code ≡ At r) where
+  pub word-row : (c word : ℕ) → wordOf code c word ≡ wordIn r c word
+  unfolding wordOf
+  word-row c word = rw e
+
+  pub taken : (c word : ℕ) → r .code < 0x8000 → c < 2 ^ r .apart → word < 2 ^ (r .width - r .apart) → wordOf code c word ≡ sampleIn r c word
+  unfolding wordIn pick
+  taken c word low hc hw =
+      word-row c word ∙ rw (lt-leb 0x8000 (r .code) low, lt-ltb c (2 ^ r .apart) hc, lt-ltb word (2 ^ (r .width - r .apart)) hw)
+
+  pub value-of : (c word : ℕ) {v : Value} → r .code < 0x8000 → c < 2 ^ r .apart → word < 2 ^ (r .width - r .apart)
+      → v ≡ valued (sampleIn r c word) → v ≡ valueOf code c word
+  unfolding valueOf
+  value-of c word low hc hw h = h ∙ ap valued (sym (taken c word low hc hw))
+
+pos-of : (c : ℕ) → (c ≡ 0 → ⊥) → 1 ≤ c
+pos-of zero n = absurd (n refl)
+pos-of (suc c) n = omega arith
+
+-- of a row of one-byte words, whose exponent stands in the word, no wider word is read
+module _ (r : Row) (low : r .code < 0x8000) (none : r .apart ≡ 0) where
+  pub wide-word : (word : ℕ) → r .width ≡ 8 → 256 ≤ word → wordIn r 0 word ≡ Refused Index
+  unfolding wordIn pick
+  wide-word word one h = rw (none, one, lt-leb 0x8000 (r .code) low, le-ltb word 256 h)
+
+  pub wide-c : (c word : ℕ) → (c ≡ 0 → ⊥) → wordIn r c word ≡ Refused Index
+  unfolding wordIn pick
+  wide-c c word n = rw (none, lt-leb 0x8000 (r .code) low, le-ltb c 1 (pos-of c n))

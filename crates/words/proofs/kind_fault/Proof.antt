@@ -1,0 +1,50 @@
+-- `words::kind_fault` meets its contract.
+-- Assumes nothing.
+use borrow.Author.Needs.{needs}
+use Rattle.words.proofs.kind_fault.Statement.{statement}
+use Rattle.words.proofs.kind_fault.Tie as tie
+
+enum-told : tie.Need-enum-told
+enum-told c = search needs
+
+negative-zero-requires : tie.Need-negative-zero-requires
+negative-zero-requires c κs = search needs
+
+enum-told-2 : tie.Need-enum-told-2
+enum-told-2 c = search needs
+
+all-ones-requires : tie.Need-all-ones-requires
+all-ones-requires c κs = search needs
+
+enum-told-3 : tie.Need-enum-told-3
+enum-told-3 c = search needs
+
+signed-zero-requires : tie.Need-signed-zero-requires
+signed-zero-requires c κs = search needs
+
+not-justified-requires : tie.Need-not-justified-requires
+not-justified-requires c κs = search needs
+
+returns : tie.Need-returns
+returns c = rw (c .before .enum-told .given .1) (c .negative-zero .ensures)
+
+returns-2 : tie.Need-returns-2
+returns-2 c = rw (c .before .enum-told2 .given .1) (c .all-ones .ensures)
+
+returns-3 : tie.Need-returns-3
+returns-3 c = rw (c .before .before .enum-told3 .given .1, c .before .signed-zero .ensures, c .not-justified .ensures)
+
+pub kind-fault-spec : {M : Type 1} → statement M
+kind-fault-spec =
+    tie.close
+    (tie.spec
+    enum-told
+    negative-zero-requires
+    enum-told-2
+    all-ones-requires
+    enum-told-3
+    signed-zero-requires
+    not-justified-requires
+    returns
+    returns-2
+    returns-3)

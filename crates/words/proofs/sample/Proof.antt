@@ -1,0 +1,96 @@
+-- `words::sample` meets its contract.
+-- Assumes nothing.
+use Prim.Native.Nat.{_+_, _^_, _<_}
+use mathlib.Core.Path.{_∙_}
+use native.Mathlib.Omega.{arith}
+use native.Mathlib.Nat.{mul-le-mul}
+use Rattle.basis.proofs.FieldLaws.{field-below}
+use Rattle.words.proofs.Parts.{from-parts}
+use Rattle.codes.specs.Codes.{row}
+use borrow.Author.Needs.{needs}
+use Rattle.words.proofs.sample.Statement.{statement}
+use Rattle.words.proofs.sample.Tie as tie
+
+sub-spare : tie.Need-sub-spare
+sub-spare c = search needs
+
+sub-spare-2 : tie.Need-sub-spare-2
+sub-spare-2 c = search needs
+
+sub-spare-3 : tie.Need-sub-spare-3
+sub-spare-3 c = search needs
+
+sub-bits : tie.Need-sub-bits
+sub-bits c = search needs
+
+sub-bits-2 : tie.Need-sub-bits-2
+sub-bits-2 c = search needs
+
+bits-requires : tie.Need-bits-requires
+bits-requires c κs = search needs
+
+add-bits : tie.Need-add-bits
+add-bits c = search needs
+
+sub-bits-3 : tie.Need-sub-bits-3
+sub-bits-3 c = search needs
+
+bits-requires-2 : tie.Need-bits-requires-2
+bits-requires-2 c κs = search needs
+
+add-e : tie.Need-add-e
+add-e c =
+    let b : c .bits2 .result < 2 ^ 7 = rw (c .bits2 .ensures) (field-below _ _ _ 7 (omega arith)) in
+    omega arith
+
+bits-requires-3 : tie.Need-bits-requires-3
+bits-requires-3 c κs = search needs
+
+fraction-requires : tie.Need-fraction-requires
+fraction-requires c κs = (omega arith, rw (c .bits3 .ensures) (field-below _ _ _ _ (search needs)))
+
+power-requires : tie.Need-power-requires
+power-requires c κs =
+    let b : c .before .before .bits2 .result < 2 ^ 7 = rw (c .before .before .bits2 .ensures) (field-below _ _ _ 7 (omega arith)) in
+    let a = c .before .before .before .before .args in
+    let f = c .before .before .before .before .pre in
+    omega (arith, mul-le-mul {n₁ = a .base} {m₁ = a .c + c .before .before .bits2 .result} {n₂ = 4} {m₂ = 256} (f .7) (omega arith), mul-le-mul (f .7) (f .8))
+
+bits-requires-4 : tie.Need-bits-requires-4
+bits-requires-4 c κs = search needs
+
+off-rule-requires : tie.Need-off-rule-requires
+off-rule-requires c κs =
+    let d = c .before .before .before in
+    let e : d .before .bits2 .result < 2 ^ 7 = rw (d .before .bits2 .ensures) (field-below _ _ _ 7 (omega arith)) in
+    let s : d .before .before .bits .result < 2 ^ 1 = rw (d .before .before .bits .ensures) (field-below _ _ _ 1 (omega arith)) in
+    (omega arith, omega arith, omega arith, omega arith, rw (d .bits3 .ensures) (field-below _ _ _ _ (search needs)))
+
+returns : tie.Need-returns
+returns c =
+    let d = c .before .before .before .before in
+    let a = d .before .before .before .args in
+    from-parts (row 0 (a .width) (a .apart) (a .n) (a .base) (a .b) (a .bias) (a .kind)) (a .c) (a .word)
+    (d .before .before .bits .ensures) (d .before .bits2 .ensures) (d .bits3 .ensures) (c .before .bits4 .ensures)
+    (search needs ∙ c .before .before .before .fraction .ensures) (search needs ∙ c .before .before .power .ensures) (c .off-rule .ensures)
+
+pub sample-spec : {M : Type 1} → statement M
+sample-spec =
+    tie.close
+    (tie.spec
+    sub-spare
+    sub-spare-2
+    sub-spare-3
+    sub-bits
+    sub-bits-2
+    bits-requires
+    add-bits
+    sub-bits-3
+    bits-requires-2
+    add-e
+    bits-requires-3
+    fraction-requires
+    power-requires
+    bits-requires-4
+    off-rule-requires
+    returns)

@@ -1,0 +1,27 @@
+-- `words::value15` meets its contract.
+-- Assumes nothing.
+use Rattle.codes.specs.Codes.{rowOf, findIn, table}
+use Rattle.basis.specs.Choice.{pick}
+use Rattle.words.proofs.Parts.{value-of}
+use mathlib.Core.Path.{refl, _∙_, ap}
+use lib.Dec.{lit<}
+use native.Mathlib.Nat.{mod-lt}
+use lib.Pow.{pow-pos}
+use Prim.Native.Nat.{_%_}
+use Rattle.words.specs.Words.{sampleIn, valued}
+use borrow.Author.Needs.{needs}
+use Rattle.words.proofs.value15.Statement.{statement}
+use Rattle.words.proofs.value15.Tie as tie
+
+sample-requires : tie.Need-sample-requires
+sample-requires c κs = search needs
+
+worth-requires : tie.Need-worth-requires
+worth-requires c κs = search needs
+
+returns : tie.Need-returns
+unfolding rowOf findIn table pick sampleIn
+returns c = value-of 0x0015 _ refl (c .before .before .args .c % 16) _ (lit< tt) (mod-lt (c .before .before .args .c) (pow-pos 4)) (search needs) (c .worth .ensures ∙ ap valued (c .before .sample .ensures))
+
+pub value15-spec : {M : Type 1} → statement M
+value15-spec = tie.close (tie.spec sample-requires worth-requires returns)
