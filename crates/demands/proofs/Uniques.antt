@@ -20,6 +20,14 @@ unique = record {
   value24 = λ κ a z z′ e e′. one-answer;
   value44 = λ κ a z z′ e e′. one-answer;
   value48 = λ κ a z z′ e e′. one-answer;
+  close = λ κ a z z′ e e′. one-answer;
+  next = λ κ a z z′ e e′. one-answer;
+  record-line = λ κ a z z′ e e′. one-within;
+  record-line-content = λ κ a z z′ e e′ p q. one-answer (p .1) (q .1);
+  last-line = λ κ a z z′ e e′. one-within;
+  last-line-content = λ κ a z z′ e e′ p q. one-answer (p .1) (q .1);
+  store = λ κ a z z′ e e′. one-within;
+  store-content = λ κ a z z′ e e′ p q. one-answer (p .1) (q .1);
   segd-format = λ κ a z z′ e e′. one-answer;
   segd-read-word = λ κ a z z′ e e′. one-answer;
 }

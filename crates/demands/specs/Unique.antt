@@ -16,6 +16,11 @@ use Rattle.words.proofs.value15.Reads as words-value15
 use Rattle.words.proofs.value24.Reads as words-value24
 use Rattle.words.proofs.value44.Reads as words-value44
 use Rattle.words.proofs.value48.Reads as words-value48
+use Rattle.framing.proofs.close.Reads as framing-close
+use Rattle.framing.proofs.next.Reads as framing-next
+use Rattle.listing.proofs.record_line.Reads as listing-record-line
+use Rattle.listing.proofs.last_line.Reads as listing-last-line
+use Rattle.listing.proofs.store.Reads as listing-store
 use Rattle.deck.proofs.segd_format.Reads as deck-segd-format
 use Rattle.deck.proofs.segd_read_word.Reads as deck-segd-read-word
 use Rattle.demands.specs.One.{OneAnswer, OneContent}
@@ -36,5 +41,13 @@ pub record Unique : Type 0 where
   pub value24 : OneAnswer words-value24.Post
   pub value44 : OneAnswer words-value44.Post
   pub value48 : OneAnswer words-value48.Post
+  pub close : OneAnswer framing-close.Post
+  pub next : OneAnswer framing-next.Post
+  pub record-line : OneAnswer listing-record-line.Post
+  pub record-line-content : OneContent listing-record-line.Post (λ κ e. e .0 .now)
+  pub last-line : OneAnswer listing-last-line.Post
+  pub last-line-content : OneContent listing-last-line.Post (λ κ e. e .0 .now)
+  pub store : OneAnswer listing-store.Post
+  pub store-content : OneContent listing-store.Post (λ κ e. e .0 .now)
   pub segd-format : OneAnswer deck-segd-format.Post
   pub segd-read-word : OneAnswer deck-segd-read-word.Post

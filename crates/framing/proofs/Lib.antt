@@ -1,0 +1,4 @@
+pub mod Bytewise
+pub mod Portions
+pub mod Framed
+pub mod Forward

@@ -1,0 +1,71 @@
+-- An image that comes in portions, cut anywhere: what a reader that goes on by `next` is told, and that it is what the whole image holds.
+-- Assumes nothing.
+use Prim.Native.Nat.{ℕ, zero, suc, _-_}
+use mathlib.Core.Path.{_≡_}
+use mathlib.Core.List.{List, [], _∷_, _++_, map}
+use lib.ListN.{length, take, drop}
+use Rattle.framing.specs.declared.Frame.{Frame}
+use Rattle.framing.specs.declared.Met.{Met}
+use Rattle.framing.specs.declared.Met.the-variants.{Framing, Part, Whole, Mark}
+use Rattle.framing.specs.Image.{Reading}
+use Rattle.framing.specs.Next.{nextOf, endingOf}
+
+-- what is told of an image, byte by byte: an item's byte, the end of an item, a mark
+pub data Told : Type 0 where
+  byte : ℕ → Told
+  close : Told
+  mark : Told
+
+-- what is to be told of an item, a mark being one without bytes
+abbrev pub itemTold : List ℕ → List Told
+itemTold [] = mark ∷ []
+itemTold (b ∷ bs) = map byte (b ∷ bs) ++ (close ∷ [])
+
+abbrev pub itemsTold : List (List ℕ) → List Told
+itemsTold [] = []
+itemsTold (i ∷ is) = itemTold i ++ itemsTold is
+
+-- what is to be told of a whole image
+abbrev pub toldOf : Reading → List Told
+toldOf r = itemsTold (r .items) ++ map byte (r .tail)
+
+-- what one answer of `next` tells, where it passed the bytes given
+abbrev pub tells : Met → List ℕ → List Told
+tells Framing bytes = []
+tells Part bytes = map byte bytes
+tells Whole bytes = map byte bytes ++ (close ∷ [])
+tells Mark bytes = mark ∷ []
+
+-- the bytes from place at up to place to
+abbrev pub part : ℕ → ℕ → List ℕ → List ℕ
+part at to bytes = take (to - at) (drop at bytes)
+
+-- where a reader came to, and what it was told on the way
+pub record Walk : Type 0 where
+  pub frame : Frame
+  pub told : List Told
+
+abbrev pub after : List Told → Walk → Walk
+after ts w = record { frame = w .frame; told = ts ++ w .told }
+
+-- so many answers of `next` one after another, over one portion
+abbrev pub walk : ℕ → Frame → List ℕ → ℕ → Walk
+walk zero f bytes at = record { frame = f; told = [] }
+walk (suc turns) f bytes at =
+    after (tells ((nextOf f bytes at) .met) (part at ((nextOf f bytes at) .to) bytes))
+    (walk turns ((nextOf f bytes at) .frame) bytes ((nextOf f bytes at) .to))
+
+-- portion after portion, each from its first byte until all are used
+abbrev pub walks : Frame → List (List ℕ) → Walk
+walks f [] = record { frame = f; told = [] }
+walks f (p ∷ ps) = after ((walk (length p) f p 0) .told) (walks ((walk (length p) f p 0) .frame) ps)
+
+-- the image that the portions make
+abbrev pub joined : List (List ℕ) → List ℕ
+joined [] = []
+joined (p ∷ ps) = p ++ joined ps
+
+-- a walk was told what the image holds, and ends as it ends
+pub record Agrees (r : Reading) (w : Walk) : Type 0 where
+  pub told : w .told ≡ toldOf r
+  pub ending : endingOf (w .frame) ≡ r .ending

@@ -1,0 +1,4 @@
+pub mod Pieces
+pub mod Decimal
+pub mod Lent
+pub mod Figures
