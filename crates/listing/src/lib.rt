@@ -19,7 +19,7 @@ pub enum Outcome {
         file: u16,
         format: u16,
         scans: u32,
-        samples: u32,
+        samples: u64,
         off: u32,
     },
     Refused {
@@ -104,12 +104,12 @@ fn put_names(out: &mut [u8], number: u64, file: u16, format: u16) -> usize
     put_name(out, b, b" format ", 16, format)
 }
 
-fn put_counts(out: &mut [u8], at: usize, scans: u32, samples: u32, off: u32) -> usize
+fn put_counts(out: &mut [u8], at: usize, scans: u32, samples: u64, off: u32) -> usize
     requires { ⌜ at + 81 ≤ length (now out) ⌝ }
     ensures { λ r. ⌜ (now (out .exit) ≡ sets (now (out .entry)) at (countsOf scans samples off)) × (r ≡ at + length (countsOf scans samples off)) × (r ≤ at + 81) ⌝ }
 {
     let a = put_count(out, at, b" scans ", scans as u64);
-    let b = put_count(out, a, b" samples ", samples as u64);
+    let b = put_count(out, a, b" samples ", samples);
     put_count(out, b, b" off ", off as u64)
 }
 
@@ -119,7 +119,7 @@ fn listed(
     file: u16,
     format: u16,
     scans: u32,
-    samples: u32,
+    samples: u64,
     off: u32,
 ) -> usize
     requires { ⌜ 128 ≤ length (now out) ⌝ }
