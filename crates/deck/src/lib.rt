@@ -9,6 +9,8 @@ use codes::Kind;
 use refusals::Told;
 use words::Word;
 
+pub mod headers;
+
 // 1 where the test holds, else 0.
 fn flag_of(t: bool) -> u8
     ensures { λ r. ⌜ r ≡ flag t ⌝ }

@@ -3,12 +3,35 @@
 use Prim.Native.Nat.{ℕ}
 use mathlib.Core.Path.{_≡_}
 use mathlib.Core.Bool.{true, false}
-use mathlib.Core.List.{List, [], _∷_}
+use mathlib.Core.List.{List, [], _∷_, _++_}
 use lib.IntN.{pos, negℤ}
+use lib.ListN.{length, replicate}
+use Rattle.refusals.specs.declared.Fault.the-variants.{Clear}
 use Rattle.values.specs.Values.{Scaled, scaled, Same}
 use Rattle.words.specs.declared.Word.{Word}
 use Rattle.words.specs.declared.Word.the-variants.{Sample}
 use Rattle.words.specs.Words.{wordOf}
+use Rattle.block.specs.declared.Pair.{Pair}
+use Rattle.block.specs.declared.Pair.the-variants.{Digits, NoPair}
+use Rattle.block.specs.Bytes.{packedOf}
+use Rattle.general.specs.General.{bytesPerScan, skewFields}
+use Rattle.sets.specs.Samples.{samplesOf}
+use Rattle.header.specs.Faults.{headerFault}
+
+-- so many zero bytes
+abbrev zeros : ℕ → List ℕ
+zeros n = replicate n 0
+
+-- a descriptor of scan type 1: its set, the digits of its channels, its S/C in the upper half
+abbrev descriptor : ℕ → ℕ → ℕ → List ℕ
+descriptor set channels exponent = 0x01 ∷ set ∷ 0 ∷ 0 ∷ 0 ∷ 2 ∷ 0 ∷ 0 ∷ 0 ∷ channels ∷ 0x10 ∷ exponent ∷ zeros 20
+
+-- the starred header: "Sets 4x1, 96x1, 12x4", in 0015, with its skew recorded
+abbrev pub starred : List ℕ
+starred =
+    (0x00 ∷ 0x01 ∷ 0x00 ∷ 0x15 ∷ zeros 6) ++ (0x80 ∷ 0x00 ∷ 0x45 ∷ 0x09 ∷ 0x30 ∷ 0x00 ∷ 0x00 ∷ 0x00 ∷ 0x01 ∷ 0x00 ∷ 0x03 ∷ 0x78 ∷ [])
+    ++ (0x20 ∷ 0x00 ∷ 0x00 ∷ 0x80 ∷ 0x05 ∷ 0x01 ∷ 0x03 ∷ 0x05 ∷ 0x00 ∷ 0x00 ∷ [])
+    ++ descriptor 0x01 0x04 0x00 ++ descriptor 0x02 0x96 0x00 ++ descriptor 0x03 0x12 0x20 ++ zeros 160
 
 -- A line: what is asked, and the answer.
 pub data Figure : Type 0 where
@@ -16,13 +39,22 @@ pub data Figure : Type 0 where
   word : (code : ℕ) → (c : ℕ) → (bits : ℕ) → Word → Figure
   -- a value, in millivolts, that is another
   value : Scaled → Scaled → Figure
+  -- a byte as a digit pair
+  pair : (byte : ℕ) → Pair → Figure
+  -- a header block that is accepted, with its S/S, B, SK and length
+  header : (block : List ℕ) → (samples : ℕ) → (scan : ℕ) → (skew : ℕ) → (bytes : ℕ) → Figure
 
 abbrev pub Says : Figure → Type 0
 Says (word code c bits is) = wordOf code c bits ≡ is
 Says (value a b) = Same a b
+Says (pair byte is) = packedOf byte ≡ is
+Says (header block samples scan skew bytes) =
+    (headerFault block ≡ Clear) × (samplesOf block 0 ≡ samples) × (bytesPerScan block ≡ scan) × (skewFields block ≡ skew) × (length block ≡ bytes)
 
 unfoldable pub figures : List Figure
 figures =
+    pair 0x99 (Digits 99) ∷
+    pair 0x9A NoPair ∷
     word 0x0022 0 0x97 (Sample (negℤ (pos 8)) (negℤ (pos 2)) false) ∷
     word 0x0022 0 0xFF (Sample (pos 0) (pos 10) true) ∷
     word 0x0042 0 0xFE (Sample (negℤ (pos 30)) (pos 7) false) ∷
@@ -34,6 +66,7 @@ figures =
     word 0x0048 0 0x41080000 (Sample (pos 262144) (negℤ (pos 19)) true) ∷
     word 0x0048 0 0x80000000 (Sample (pos 0) (negℤ (pos 279)) true) ∷
     word 0x0015 15 0x8000 (Sample (negℤ (pos 16383)) (pos 1) false) ∷
+    header starred 148 378 5 288 ∷
     []
 
 abbrev pub All : List Figure → Type 0
