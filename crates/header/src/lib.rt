@@ -17,6 +17,7 @@ use refusals::Refusal;
 use sets::ChannelSet;
 
 // What an accepted header says.
+#[repr(C)]
 pub struct Header {
     pub file: u16,
     // the format code's sixteen bits

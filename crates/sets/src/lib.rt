@@ -18,6 +18,7 @@ use refusals::Fault;
 use refusals::Refusal;
 
 // What a channel set descriptor says.
+#[repr(C)]
 pub struct ChannelSet {
     // the set's first and last time, in 2 ms
     pub start: u16,
