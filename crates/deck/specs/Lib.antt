@@ -1,2 +1,4 @@
 pub mod Flat
 pub mod Headers
+pub mod Places
+pub mod Bodies

@@ -9,7 +9,9 @@ use codes::Kind;
 use refusals::Told;
 use words::Word;
 
+pub mod bodies;
 pub mod headers;
+pub mod places;
 
 // 1 where the test holds, else 0.
 fn flag_of(t: bool) -> u8

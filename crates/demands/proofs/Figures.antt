@@ -1,7 +1,9 @@
 -- The one theorem of the starred figures: each follows from its definition by computing it.
 -- Assumes nothing.
 use mathlib.Core.Path.{refl}
-use Rattle.basis.specs.Choice.{pick}
+use Rattle.refusals.specs.declared.Refusal.the-variants as refusal
+use Rattle.layout.specs.declared.Place.the-variants.{Sits, NoPlace}
+use Rattle.basis.specs.Choice.{pick, _and_}
 use Rattle.basis.specs.Fields.{field}
 use Rattle.codes.specs.Codes.{table, findIn, rowOf, perIn, perOf, bitsOf}
 use Rattle.values.specs.Values.{times, brought, lessTest, sameTest}
@@ -14,13 +16,24 @@ use Rattle.general.specs.General.{generalDigits, within, timeInRange, isInterva
 use Rattle.sets.specs.Descriptors.{placeOf, descriptorAt, descriptorHolds, fourHolds, setFault, scanTypeFault, descriptorsFault}
 use Rattle.sets.specs.Samples.{setSamples, samplesOf}
 use Rattle.header.specs.Faults.{sizeHolds, sizeFault, sizesFault, skewHolds, headerFault}
-use Rattle.demands.specs.Figures.{Says, header, starred, All, figures}
+use Rattle.layout.specs.Indexes.{passed, setAt, setOf, isPlace, spotOf, placeFault, placeAnswer}
+use Rattle.parts.specs.Times.{timeBy}
+use Rattle.demands.specs.Figures.{Says, header, place, starred, All, figures}
 
 -- the starred header breaks no rule
 accepted : Says (header starred 148 378 5 288)
 unfolding pick upto written table findIn rowOf perIn perOf bitsOf isPair pairOf byte upper lower pair decimal threeDigits binary pairs generalDigits within timeInRange isInterval countsInRange headerLength generalFault placeOf descriptorAt descriptorHolds fourHolds setFault scanTypeFault descriptorsFault setSamples samplesOf sizeHolds sizeFault sizesFault skewHolds headerFault
 accepted = (refl, refl, refl, refl, refl)
 
+-- and so its samples have their places
+placed : Says (place starred 112 (Sits 3 1 1))
+unfolding pick upto written isPair pairOf byte upper lower pair decimal threeDigits binary pairs within placeOf descriptorAt setSamples samplesOf _and_ passed setAt setOf isPlace spotOf placeFault placeAnswer
+placed = rw (accepted .0)
+
+past : Says (place starred 148 (NoPlace refusal.Index))
+unfolding pick upto written isPair pairOf byte upper lower pair decimal threeDigits binary pairs within placeOf descriptorAt setSamples samplesOf _and_ isPlace placeFault placeAnswer
+past = rw (accepted .0)
+
 pub all-figures : All figures
-unfolding figures times brought lessTest sameTest pick field table findIn rowOf fractionOf powerOf lastBit negativeZero allOnes signedZero notJustified offRule sampleIn wordIn wordOf isPair pairOf packedOf
-all-figures = (refl, (refl, (refl, (refl, (refl, (refl, (refl, (refl, (refl, (same-told tt, (refl, (refl, (refl, (accepted, tt))))))))))))))
+unfolding figures times brought lessTest sameTest pick field table findIn rowOf fractionOf powerOf lastBit negativeZero allOnes signedZero notJustified offRule sampleIn wordIn wordOf isPair pairOf packedOf timeBy
+all-figures = (refl, (refl, (refl, (refl, (refl, (refl, (refl, (refl, (refl, (same-told tt, (refl, (refl, (refl, (refl, (refl, (accepted, (placed, (past, tt))))))))))))))))))

@@ -1,2 +1,3 @@
 pub mod Uniques
 pub mod Figures
+pub mod Demands

@@ -1,6 +1,7 @@
 -- Each contract leaves one answer, since it equates it.
 -- Assumes nothing.
 use Rattle.basis.proofs.Answers.{one-answer, one-within}
+use Rattle.parts.proofs.SliceLaws.{one-part}
 use Rattle.demands.specs.Unique.{Unique}
 
 pub unique : Unique
@@ -40,17 +41,60 @@ unique = record {
   header-fault = λ κ a z z′ e e′. one-answer;
   read-header = λ κ a z z′ e e′. one-answer;
   descriptor = λ κ a z z′ e e′. one-answer;
-  close = λ κ a z z′ e e′. one-answer;
-  next = λ κ a z z′ e e′. one-answer;
+  is-scan-type = λ κ a z z′ e e′. one-answer;
+  sample-index = λ κ a z z′ e e′. one-answer;
+  place-fault = λ κ a z z′ e e′. one-answer;
+  sample-place = λ κ a z z′ e e′. one-answer;
+  part-refusal = λ κ a z z′ e e′. one-answer;
+  constants = λ κ a z z′ e e′. one-part;
+  extended-place = λ κ a z z′ e e′. one-within;
+  extended = λ κ a z z′ e e′. one-part;
+  external = λ κ a z z′ e e′. one-part;
+  skew-refusal = λ κ a z z′ e e′. one-answer;
+  skew-place = λ κ a z z′ e e′. one-within;
+  skew = λ κ a z z′ e e′. one-part;
+  skew-at = λ κ a z z′ e e′. one-answer;
+  sample-time = λ κ a z z′ e e′. one-answer;
+  fit = λ κ a z z′ e e′. one-answer;
+  bytes-by = λ κ a z z′ e e′. one-within;
+  bytes-by-content = λ κ a z z′ e e′ p q. one-answer (p .1) (q .1);
+  words24 = λ κ a z z′ e e′. one-within;
+  words24-content = λ κ a z z′ e e′ p q. one-answer (p .1) (q .1);
+  words44 = λ κ a z z′ e e′. one-within;
+  words44-content = λ κ a z z′ e e′ p q. one-answer (p .1) (q .1);
+  words48 = λ κ a z z′ e e′. one-within;
+  words48-content = λ κ a z z′ e e′ p q. one-answer (p .1) (q .1);
+  groups15 = λ κ a z z′ e e′. one-within;
+  groups15-content = λ κ a z z′ e e′ p q. one-answer (p .1) (q .1);
+  body-open = λ κ a z z′ e e′. one-answer;
+  portion = λ κ a z z′ e e′. one-within;
+  portion-content = λ κ a z z′ e e′ p q. one-answer (p .1) (q .1);
+  block-end = λ κ a z z′ e e′. one-answer;
+  body-close = λ κ a z z′ e e′. one-answer;
+  framing-close = λ κ a z z′ e e′. one-answer;
+  framing-next = λ κ a z z′ e e′. one-answer;
   record-line = λ κ a z z′ e e′. one-within;
   record-line-content = λ κ a z z′ e e′ p q. one-answer (p .1) (q .1);
   last-line = λ κ a z z′ e e′. one-within;
   last-line-content = λ κ a z z′ e e′ p q. one-answer (p .1) (q .1);
   store = λ κ a z z′ e e′. one-within;
   store-content = λ κ a z z′ e e′ p q. one-answer (p .1) (q .1);
+  segd-open = λ κ a z z′ e e′. one-answer;
+  segd-portion = λ κ a z z′ e e′. one-within;
+  segd-portion-content = λ κ a z z′ e e′ p q. one-answer (p .1) (q .1);
+  segd-block-end = λ κ a z z′ e e′. one-answer;
+  segd-close = λ κ a z z′ e e′. one-answer;
   segd-packed = λ κ a z z′ e e′. one-answer;
   segd-read-header = λ κ a z z′ e e′. one-answer;
   segd-descriptor = λ κ a z z′ e e′. one-answer;
   segd-format = λ κ a z z′ e e′. one-answer;
   segd-read-word = λ κ a z z′ e e′. one-answer;
+  segd-sample-index = λ κ a z z′ e e′. one-answer;
+  segd-sample-place = λ κ a z z′ e e′. one-answer;
+  segd-constants = λ κ a z z′ e e′. one-answer;
+  segd-extended = λ κ a z z′ e e′. one-answer;
+  segd-external = λ κ a z z′ e e′. one-answer;
+  segd-skew = λ κ a z z′ e e′. one-answer;
+  segd-skew-at = λ κ a z z′ e e′. one-answer;
+  segd-sample-time = λ κ a z z′ e e′. one-answer;
 }

@@ -7,6 +7,7 @@ use mathlib.Core.List.{List, [], _∷_, _++_}
 use lib.IntN.{pos, negℤ}
 use lib.ListN.{length, replicate}
 use Rattle.refusals.specs.declared.Fault.the-variants.{Clear}
+use Rattle.refusals.specs.declared.Refusal.the-variants as refusal
 use Rattle.values.specs.Values.{Scaled, scaled, Same}
 use Rattle.words.specs.declared.Word.{Word}
 use Rattle.words.specs.declared.Word.the-variants.{Sample}
@@ -17,6 +18,11 @@ use Rattle.block.specs.Bytes.{packedOf}
 use Rattle.general.specs.General.{bytesPerScan, skewFields}
 use Rattle.sets.specs.Samples.{samplesOf}
 use Rattle.header.specs.Faults.{headerFault}
+use Rattle.layout.specs.declared.Place.{Place}
+use Rattle.layout.specs.declared.Place.the-variants.{Sits, NoPlace}
+use Rattle.layout.specs.Indexes.{placeAnswer}
+use Rattle.parts.specs.Times.{timeBy}
+use Rattle.rules.specs.Scans.{nextTiming}
 
 -- so many zero bytes
 abbrev zeros : ℕ → List ℕ
@@ -43,6 +49,12 @@ pub data Figure : Type 0 where
   pair : (byte : ℕ) → Pair → Figure
   -- a header block that is accepted, with its S/S, B, SK and length
   header : (block : List ℕ) → (samples : ℕ) → (scan : ℕ) → (skew : ℕ) → (bytes : ℕ) → Figure
+  -- the place of sample k of scan type 1 of a header block
+  place : (block : List ℕ) → (k : ℕ) → Place → Figure
+  -- a sample's time, of T, SS and I
+  time : (T : ℕ) → (SS : ℕ) → (I : ℕ) → ℕ → Figure
+  -- the timing word that comes after one, of I and T
+  timing : (I : ℕ) → (T : ℕ) → ℕ → Figure
 
 abbrev pub Says : Figure → Type 0
 Says (word code c bits is) = wordOf code c bits ≡ is
@@ -50,6 +62,9 @@ Says (value a b) = Same a b
 Says (pair byte is) = packedOf byte ≡ is
 Says (header block samples scan skew bytes) =
     (headerFault block ≡ Clear) × (samplesOf block 0 ≡ samples) × (bytesPerScan block ≡ scan) × (skewFields block ≡ skew) × (length block ≡ bytes)
+Says (place block k is) = placeAnswer block 1 k ≡ is
+Says (time T SS I is) = timeBy T SS I ≡ is
+Says (timing I T is) = nextTiming I T ≡ is
 
 unfoldable pub figures : List Figure
 figures =
@@ -66,7 +81,11 @@ figures =
     word 0x0048 0 0x41080000 (Sample (pos 262144) (negℤ (pos 19)) true) ∷
     word 0x0048 0 0x80000000 (Sample (pos 0) (negℤ (pos 279)) true) ∷
     word 0x0015 15 0x8000 (Sample (negℤ (pos 16383)) (pos 1) false) ∷
+    timing 128 0xFFF800 0x000000 ∷
+    time 512 1 32 8224 ∷
     header starred 148 378 5 288 ∷
+    place starred 112 (Sits 3 1 1) ∷
+    place starred 148 (NoPlace refusal.Index) ∷
     []
 
 abbrev pub All : List Figure → Type 0

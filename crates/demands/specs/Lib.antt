@@ -1,3 +1,6 @@
 pub mod One
 pub mod Unique
 pub mod Figures
+pub mod Demand1
+pub mod Demand2
+pub mod Demand3

@@ -1,5 +1,5 @@
--- For every function that is open to callers: its contract, as the source has it, leaves one answer, and one content of what is
--- lent to be written.
+-- For every function that is open to callers: its contract, as the source has it, leaves one answer, one content of what is lent
+-- to be written, and where it hands a part out the very part: its place in memory and its bytes.
 -- Assumes nothing.
 use Rattle.basis.proofs.difference.Reads as basis-difference
 use Rattle.basis.proofs.magnitude.Reads as basis-magnitude
@@ -36,17 +36,53 @@ use Rattle.sets.proofs.channel_set.Reads as sets-channel-set
 use Rattle.header.proofs.header_fault.Reads as header-header-fault
 use Rattle.header.proofs.read_header.Reads as header-read-header
 use Rattle.header.proofs.descriptor.Reads as header-descriptor
+use Rattle.layout.proofs.is_scan_type.Reads as layout-is-scan-type
+use Rattle.layout.proofs.sample_index.Reads as layout-sample-index
+use Rattle.layout.proofs.place_fault.Reads as layout-place-fault
+use Rattle.layout.proofs.sample_place.Reads as layout-sample-place
+use Rattle.parts.proofs.part_refusal.Reads as parts-part-refusal
+use Rattle.parts.proofs.constants.Reads as parts-constants
+use Rattle.parts.proofs.extended_place.Reads as parts-extended-place
+use Rattle.parts.proofs.extended.Reads as parts-extended
+use Rattle.parts.proofs.external.Reads as parts-external
+use Rattle.parts.proofs.skew_refusal.Reads as parts-skew-refusal
+use Rattle.parts.proofs.skew_place.Reads as parts-skew-place
+use Rattle.parts.proofs.skew.Reads as parts-skew
+use Rattle.parts.proofs.skew_at.Reads as parts-skew-at
+use Rattle.parts.proofs.sample_time.Reads as parts-sample-time
+use Rattle.scan.proofs.fit.Reads as scan-fit
+use Rattle.runs.proofs.bytes_by.Reads as runs-bytes-by
+use Rattle.runs.proofs.words24.Reads as runs-words24
+use Rattle.runs.proofs.words44.Reads as runs-words44
+use Rattle.runs.proofs.words48.Reads as runs-words48
+use Rattle.runs.proofs.groups15.Reads as runs-groups15
+use Rattle.body.proofs.open.Reads as body-open
+use Rattle.body.proofs.portion.Reads as body-portion
+use Rattle.body.proofs.block_end.Reads as body-block-end
+use Rattle.body.proofs.close.Reads as body-close
 use Rattle.framing.proofs.close.Reads as framing-close
 use Rattle.framing.proofs.next.Reads as framing-next
 use Rattle.listing.proofs.record_line.Reads as listing-record-line
 use Rattle.listing.proofs.last_line.Reads as listing-last-line
 use Rattle.listing.proofs.store.Reads as listing-store
+use Rattle.deck.proofs.bodies.segd_open.Reads as deck-segd-open
+use Rattle.deck.proofs.bodies.segd_portion.Reads as deck-segd-portion
+use Rattle.deck.proofs.bodies.segd_block_end.Reads as deck-segd-block-end
+use Rattle.deck.proofs.bodies.segd_close.Reads as deck-segd-close
 use Rattle.deck.proofs.headers.segd_packed.Reads as deck-segd-packed
 use Rattle.deck.proofs.headers.segd_read_header.Reads as deck-segd-read-header
 use Rattle.deck.proofs.headers.segd_descriptor.Reads as deck-segd-descriptor
 use Rattle.deck.proofs.segd_format.Reads as deck-segd-format
 use Rattle.deck.proofs.segd_read_word.Reads as deck-segd-read-word
-use Rattle.demands.specs.One.{OneAnswer, OneContent}
+use Rattle.deck.proofs.places.segd_sample_index.Reads as deck-segd-sample-index
+use Rattle.deck.proofs.places.segd_sample_place.Reads as deck-segd-sample-place
+use Rattle.deck.proofs.places.segd_constants.Reads as deck-segd-constants
+use Rattle.deck.proofs.places.segd_extended.Reads as deck-segd-extended
+use Rattle.deck.proofs.places.segd_external.Reads as deck-segd-external
+use Rattle.deck.proofs.places.segd_skew.Reads as deck-segd-skew
+use Rattle.deck.proofs.places.segd_skew_at.Reads as deck-segd-skew-at
+use Rattle.deck.proofs.places.segd_sample_time.Reads as deck-segd-sample-time
+use Rattle.demands.specs.One.{OneAnswer, OneContent, OnePart}
 
 pub record Unique : Type 0 where
   pub difference : OneAnswer basis-difference.Post
@@ -84,16 +120,59 @@ pub record Unique : Type 0 where
   pub header-fault : OneAnswer header-header-fault.Post
   pub read-header : OneAnswer header-read-header.Post
   pub descriptor : OneAnswer header-descriptor.Post
-  pub close : OneAnswer framing-close.Post
-  pub next : OneAnswer framing-next.Post
+  pub is-scan-type : OneAnswer layout-is-scan-type.Post
+  pub sample-index : OneAnswer layout-sample-index.Post
+  pub place-fault : OneAnswer layout-place-fault.Post
+  pub sample-place : OneAnswer layout-sample-place.Post
+  pub part-refusal : OneAnswer parts-part-refusal.Post
+  pub constants : OnePart parts-constants.Post
+  pub extended-place : OneAnswer parts-extended-place.Post
+  pub extended : OnePart parts-extended.Post
+  pub external : OnePart parts-external.Post
+  pub skew-refusal : OneAnswer parts-skew-refusal.Post
+  pub skew-place : OneAnswer parts-skew-place.Post
+  pub skew : OnePart parts-skew.Post
+  pub skew-at : OneAnswer parts-skew-at.Post
+  pub sample-time : OneAnswer parts-sample-time.Post
+  pub fit : OneAnswer scan-fit.Post
+  pub bytes-by : OneAnswer runs-bytes-by.Post
+  pub bytes-by-content : OneContent runs-bytes-by.Post (λ κ e. e .1 .1 .0 .now)
+  pub words24 : OneAnswer runs-words24.Post
+  pub words24-content : OneContent runs-words24.Post (λ κ e. e .1 .0 .now)
+  pub words44 : OneAnswer runs-words44.Post
+  pub words44-content : OneContent runs-words44.Post (λ κ e. e .1 .0 .now)
+  pub words48 : OneAnswer runs-words48.Post
+  pub words48-content : OneContent runs-words48.Post (λ κ e. e .1 .0 .now)
+  pub groups15 : OneAnswer runs-groups15.Post
+  pub groups15-content : OneContent runs-groups15.Post (λ κ e. e .1 .0 .now)
+  pub body-open : OneAnswer body-open.Post
+  pub portion : OneAnswer body-portion.Post
+  pub portion-content : OneContent body-portion.Post (λ κ e. e .1 .1 .0 .now)
+  pub block-end : OneAnswer body-block-end.Post
+  pub body-close : OneAnswer body-close.Post
+  pub framing-close : OneAnswer framing-close.Post
+  pub framing-next : OneAnswer framing-next.Post
   pub record-line : OneAnswer listing-record-line.Post
   pub record-line-content : OneContent listing-record-line.Post (λ κ e. e .0 .now)
   pub last-line : OneAnswer listing-last-line.Post
   pub last-line-content : OneContent listing-last-line.Post (λ κ e. e .0 .now)
   pub store : OneAnswer listing-store.Post
   pub store-content : OneContent listing-store.Post (λ κ e. e .0 .now)
+  pub segd-open : OneAnswer deck-segd-open.Post
+  pub segd-portion : OneAnswer deck-segd-portion.Post
+  pub segd-portion-content : OneContent deck-segd-portion.Post (λ κ e. e .1 .1 .0 .now)
+  pub segd-block-end : OneAnswer deck-segd-block-end.Post
+  pub segd-close : OneAnswer deck-segd-close.Post
   pub segd-packed : OneAnswer deck-segd-packed.Post
   pub segd-read-header : OneAnswer deck-segd-read-header.Post
   pub segd-descriptor : OneAnswer deck-segd-descriptor.Post
   pub segd-format : OneAnswer deck-segd-format.Post
   pub segd-read-word : OneAnswer deck-segd-read-word.Post
+  pub segd-sample-index : OneAnswer deck-segd-sample-index.Post
+  pub segd-sample-place : OneAnswer deck-segd-sample-place.Post
+  pub segd-constants : OneAnswer deck-segd-constants.Post
+  pub segd-extended : OneAnswer deck-segd-extended.Post
+  pub segd-external : OneAnswer deck-segd-external.Post
+  pub segd-skew : OneAnswer deck-segd-skew.Post
+  pub segd-skew-at : OneAnswer deck-segd-skew-at.Post
+  pub segd-sample-time : OneAnswer deck-segd-sample-time.Post

@@ -1,0 +1,10 @@
+pub mod Plans
+pub mod Tests
+pub mod Form
+pub mod Steps
+pub mod Ends
+pub mod Bytes
+pub mod Link
+pub mod Whole
+pub mod Public
+pub mod Agreement

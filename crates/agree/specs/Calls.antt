@@ -1,0 +1,55 @@
+-- Calls on the streamed reader: what it does with them, and the body that they spell.
+-- Assumes nothing.
+use Prim.Native.Nat.{ℕ, _*_, _<_}
+use mathlib.Core.List.{List, [], _∷_, _++_}
+use lib.Dec.{ltb}
+use lib.IntN.{ℤ}
+use lib.ListN.{length}
+use Rattle.basis.specs.Choice.{pick}
+use Rattle.rules.specs.Tape.{Body}
+use Rattle.rules.specs.Cuts.{Piece, portion, blockEnd, spelled}
+use Rattle.scan.specs.declared.State.{State}
+use Rattle.body.specs.Calls as K
+use Rattle.body.specs.Ends as N
+use Rattle.body.specs.Open as O
+
+-- a portion, with the length of the output that is lent for it; or a block end
+pub data Call : Type 0 where
+  put : List ℕ → ℕ → Call
+  end : Call
+
+-- every byte is one
+abbrev pub Bytes : List ℕ → Type 0
+Bytes [] = Unit {0}
+Bytes (b ∷ bs) = (b < 256) × Bytes bs
+
+abbrev pub BytesIn : List Call → Type 0
+BytesIn [] = Unit {0}
+BytesIn (put bs room ∷ cs) = Bytes bs × BytesIn cs
+BytesIn (end ∷ cs) = BytesIn cs
+
+-- ---- what the reader does
+-- its state, and the numbers that it has written, one portion's after another's
+pub record Reading : Type 0 where
+  pub state : State
+  pub written : List ℤ
+
+abbrev pub readOn : Reading → List Call → Reading
+readOn c [] = c
+readOn c (put bs room ∷ cs) = readOn (record { state = K.portion (c .state) bs room .state; written = c .written ++ K.written (c .state) bs room }) cs
+readOn c (end ∷ cs) = readOn (record { state = N.blockEnd (c .state) .state; written = c .written }) cs
+
+-- from the opening on a header block
+abbrev pub readingOf : List ℕ → List Call → Reading
+readingOf b = readOn (record { state = O.opened b .state; written = [] })
+
+-- ---- what the rules say
+-- the pieces that are taken: "a portion needs twice its length in output numbers", and one without room is no part of the body
+abbrev pub taken : List Call → List Piece
+taken [] = []
+taken (put bs room ∷ cs) = pick (ltb room (2 * length bs)) (taken cs) (portion bs ∷ taken cs)
+taken (end ∷ cs) = blockEnd ∷ taken cs
+
+-- the body that the calls spell
+abbrev pub bodyOf : List Call → Body
+bodyOf cs = spelled (taken cs)

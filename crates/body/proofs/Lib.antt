@@ -1,0 +1,14 @@
+pub mod Digits
+pub mod Readers
+pub mod Spots
+pub mod Held
+pub mod Turns
+pub mod Words
+pub mod Whole
+pub mod Choose
+pub mod Parts
+pub mod Going
+pub mod BlockEnds
+pub mod Cuts
+pub mod Stops
+pub mod Opens

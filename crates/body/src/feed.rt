@@ -1,0 +1,146 @@
+// A portion of a fit state: its bytes one by one, whole words at once.
+use crate::Answer;
+use crate::Gave;
+use crate::bulk::ahead;
+use crate::bulk::run_at;
+use crate::byte::step;
+use codes::Found;
+use codes::Row;
+use refusals::Refusal;
+use scan::State;
+use words::Value;
+use words::tables::TABLE_22;
+use words::tables::TABLE_42;
+ghost use mathlib.Core.Path.{_≡_};
+ghost use Prim.Native.Nat.{_+_, _*_, _≤_, _<_};
+ghost use lib.ListN.{length, set};
+ghost use Rattle.words.specs.Entries.{Reads};
+ghost use Rattle.runs.specs.Runs.{over};
+ghost use Rattle.scan.specs.Fit.{Fit};
+ghost use Rattle.scan.specs.Step.{wrote};
+ghost use Rattle.body.specs.Calls as Calls;
+
+// The refusal of a stop, by its number.
+pub(crate) fn stop_of(number: u32, place: u32) -> Refusal
+    ensures { λ r. ⌜ r ≡ Calls.stopOf number place ⌝ }
+{
+    if number == 14 {
+        return Refusal::Long { place };
+    }
+    if number == 15 {
+        return Refusal::Block { place };
+    }
+    if number == 16 {
+        return Refusal::Sync { place };
+    }
+    if number == 17 {
+        return Refusal::Timing { place };
+    }
+    Refusal::Phase { place }
+}
+
+// The answer of a state, after n numbers were written.
+pub(crate) fn answered(s: State, n: usize) -> Answer
+    ensures { λ r. ⌜ r ≡ Calls.answered s n ⌝ }
+{
+    if s.stop == 0 {
+        return Answer::GoingOn { samples: n / 2 };
+    }
+    Answer::Stopped {
+        samples: n / 2,
+        refusal: stop_of(s.stop, s.stopat),
+    }
+}
+
+// Writes a sample's M and X at n.
+fn put(out: &mut [i32], n: usize, w: Value)
+    requires { ⌜ n + 1 < length (now out) ⌝ }
+    ensures { λ _. ⌜ now (out .exit) ≡ set (set (now (out .entry)) n (w .m)) (n + 1) (w .x) ⌝ }
+{
+    let m = w.m;
+    let x = w.x;
+    out[n] = m;
+    out[n + 1] = x;
+}
+
+fn feed(s: State, row: Row, table: &[u16; 256], bytes: &[u8], out: &mut [i32]) -> Gave
+    requires { ⌜ Reads (s .shape .code) row (now table) ⌝ }
+    requires { ⌜ Fit s ⌝ }
+    requires { ⌜ 2 * length (now bytes) ≤ length (now out) ⌝ }
+    ensures { λ r. ⌜ r ≡ Calls.fed s (now (bytes .entry)) ⌝ }
+    ensures { λ r. ⌜ now (out .exit) ≡ over (wrote s (now (bytes .entry))) (now (out .entry)) ⌝ }
+{
+    let w = codes::group_in(row);
+    let mut t = s;
+    let mut n: usize = 0;
+    let mut i: usize = 0;
+    while i < bytes.len() {
+        let k = ahead(t, w, bytes.len() - i);
+        if k == 0 {
+            let r = step(t, row, table, bytes[i]);
+            t = r.state;
+            i += 1;
+            if r.wrote {
+                let x = r.word;
+                put(out, n, x);
+                n += 2;
+            }
+        } else {
+            let r = run_at(t, w, table, bytes, i, k, out, n);
+            t = r.state;
+            i += k;
+            n += r.wrote;
+        }
+    }
+    let a = answered(t, n);
+    Gave {
+        state: t,
+        answer: a,
+    }
+}
+
+// An earlier stop, then ROOM.
+fn take(s: State, row: Row, table: &[u16; 256], bytes: &[u8], out: &mut [i32]) -> Gave
+    requires { ⌜ Reads (s .shape .code) row (now table) ⌝ }
+    requires { ⌜ Fit s ⌝ }
+    ensures { λ r. ⌜ r ≡ Calls.taken s (now (bytes .entry)) (length (now (out .entry))) ⌝ }
+    ensures { λ r. ⌜ now (out .exit) ≡ over (Calls.kept s (now (bytes .entry)) (length (now (out .entry)))) (now (out .entry)) ⌝ }
+{
+    if s.stop != 0 {
+        let a = answered(s, 0);
+        return Gave {
+            state: s,
+            answer: a,
+        };
+    }
+    if out.len() / 2 < bytes.len() {
+        return Gave {
+            state: s,
+            answer: Answer::Refused(Refusal::Room),
+        };
+    }
+    feed(s, row, table, bytes, out)
+}
+
+// The same, with the row and the table of the code, looked up once.
+pub(crate) fn by_row(s: State, bytes: &[u8], out: &mut [i32]) -> Gave
+    requires { ⌜ Fit s ⌝ }
+    ensures { λ r. ⌜ r ≡ Calls.taken s (now (bytes .entry)) (length (now (out .entry))) ⌝ }
+    ensures { λ r. ⌜ now (out .exit) ≡ over (Calls.kept s (now (bytes .entry)) (length (now (out .entry)))) (now (out .entry)) ⌝ }
+{
+    let found = codes::find(s.shape.code);
+    match found {
+        Found::At(row) => {
+            if s.shape.code == 0x0022 {
+                let t = TABLE_22;
+                return take(s, row, &t, bytes, out);
+            }
+            let t = TABLE_42;
+            take(s, row, &t, bytes, out)
+        }
+        Found::Nothing => Gave {
+            state: s,
+            answer: Answer::Refused(Refusal::State),
+        },
+    }
+}

@@ -1,0 +1,38 @@
+-- `deck::places::segd_sample_place` meets its contract.
+-- Assumes nothing.
+use borrow.Author.Needs.{needs}
+use Rattle.deck.proofs.places.segd_sample_place.Statement.{statement}
+use Rattle.deck.proofs.places.segd_sample_place.Tie as tie
+
+sample-place-requires : tie.Need-sample-place-requires
+sample-place-requires c κs = search needs
+
+enum-known-answer : tie.Need-enum-known-answer
+enum-known-answer c = search needs
+
+clear-requires : tie.Need-clear-requires
+clear-requires c κs = search needs
+
+enum-known-answer-2 : tie.Need-enum-known-answer-2
+enum-known-answer-2 c = search needs
+
+tell-requires : tie.Need-tell-requires
+tell-requires c κs = search needs
+
+returns : tie.Need-returns
+returns c = rw (← c .before .before .before .before .sample-place .ensures, c .before .before .answer .given .1, c .clear .ensures)
+
+returns-2 : tie.Need-returns-2
+returns-2 c = rw (← c .before .before .before .before .sample-place .ensures, c .before .before .answer2 .given .1, c .tell .ensures)
+
+pub segd-sample-place-spec : {M : Type 1} → statement M
+segd-sample-place-spec =
+    tie.close
+    (tie.spec
+    sample-place-requires
+    enum-known-answer
+    clear-requires
+    enum-known-answer-2
+    tell-requires
+    returns
+    returns-2)

@@ -1,0 +1,74 @@
+-- The body's answers laid flat.
+-- Assumes nothing.
+use Prim.Native.Nat.{ℕ}
+use Rattle.refusals.specs.declared.Told.{Told}
+use Rattle.refusals.specs.Table.{told}
+use Rattle.scan.specs.declared.State.{State}
+use Rattle.body.specs.declared.Opening.{Opening}
+use Rattle.body.specs.declared.Opening.the-variants as opening
+use Rattle.body.specs.declared.Opened.{Opened}
+use Rattle.body.specs.declared.Answer.{Answer}
+use Rattle.body.specs.declared.Answer.the-variants.{GoingOn, Stopped, Refused}
+use Rattle.body.specs.declared.Gave.{Gave}
+use Rattle.body.specs.declared.Itb.{Itb}
+use Rattle.body.specs.declared.Itb.the-variants as itb
+use Rattle.body.specs.declared.Window.{Window}
+use Rattle.body.specs.declared.Window.the-variants as window
+use Rattle.body.specs.declared.Closed.{Closed}
+use Rattle.body.specs.declared.Closed.the-variants as closed
+use Rattle.body.specs.declared.Closing.{Closing}
+use Rattle.deck.specs.declared.bodies.SegdOpened.{SegdOpened}
+use Rattle.deck.specs.declared.bodies.SegdGave.{SegdGave}
+use Rattle.deck.specs.declared.bodies.SegdClosing.{SegdClosing}
+use Rattle.deck.specs.Flat.{unrefused}
+
+abbrev pub flatOpening : Opening → Told
+flatOpening opening.Ready = unrefused
+flatOpening (opening.Refused r) = told r
+
+abbrev pub flatOpened : Opened → SegdOpened
+flatOpened o = record { refusal = flatOpening (o .answer); state = o .state }
+
+-- 0 going on, 1 stopped, 2 refused
+abbrev pub flatBy : State → Answer → SegdGave
+flatBy s (GoingOn n) = record { state = s; outcome = 0; refusal = unrefused; samples = n }
+flatBy s (Stopped n r) = record { state = s; outcome = 1; refusal = told r; samples = n }
+flatBy s (Refused r) = record { state = s; outcome = 2; refusal = told r; samples = 0 }
+
+abbrev pub flatGave : Gave → SegdGave
+flatGave g = flatBy (g .state) (g .answer)
+
+-- ITB and the window's T: whether there is one, and which
+abbrev pub itbKnown : Itb → ℕ
+itbKnown itb.None = 0
+itbKnown (itb.Bit b) = 1
+
+abbrev pub itbBit : Itb → ℕ
+itbBit itb.None = 0
+itbBit (itb.Bit b) = b
+
+abbrev pub windowKnown : Window → ℕ
+windowKnown window.None = 0
+windowKnown (window.At t) = 1
+
+abbrev pub windowAt : Window → ℕ
+windowAt window.None = 0
+windowAt (window.At t) = t
+
+abbrev pub flatAnswer : Closed → Told
+flatAnswer closed.Whole = unrefused
+flatAnswer (closed.Refused r) = told r
+
+abbrev pub flatClosing : Closing → SegdClosing
+flatClosing c =
+    record {
+      refusal = flatAnswer (c .answer);
+      scans = c .report .scans;
+      off = c .report .off;
+      samples = c .report .samples;
+      «last_type» = c .report .«last_type»;
+      «itb_known» = itbKnown (c .report .itb);
+      itb = itbBit (c .report .itb);
+      «window_known» = windowKnown (c .report .window);
+      window = windowAt (c .report .window);
+    }

@@ -1,0 +1,176 @@
+// The body of a record, streamed. The state is a struct of numbers that the caller keeps and hands in again.
+ghost use mathlib.Core.Path.{_≡_};
+ghost use lib.ListN.{length};
+ghost use Rattle.runs.specs.Runs.{over};
+ghost use Rattle.body.specs.Open.{opened};
+ghost use Rattle.body.specs.Calls.{portion, written};
+ghost use Rattle.body.specs.Ends.{blockEnd, close};
+ghost use Rattle.deck.specs.Bodies.{flatOpened, flatAnswer, flatGave, flatClosing, itbKnown, itbBit, windowKnown, windowAt};
+use crate::clear;
+use body::Answer;
+use body::Closed;
+use body::Gave;
+use body::Itb;
+use body::Opening;
+use body::Window;
+use refusals::Told;
+use scan::State;
+
+// The state before the first byte; or the header's refusal, with a state that every call refuses.
+#[repr(C)]
+pub struct SegdOpened {
+    pub refusal: Told,
+    pub state: State,
+}
+
+#[no_mangle]
+pub extern "C" fn segd_open(block: &[u8]) -> SegdOpened
+    ensures { λ r. ⌜ r ≡ flatOpened (opened (now (block .entry))) ⌝ }
+{
+    let opened = body::open(block);
+    let answer = opened.answer;
+    let state = opened.state;
+    match answer {
+        Opening::Ready => SegdOpened {
+            refusal: clear(),
+            state,
+        },
+        Opening::Refused(r) => SegdOpened {
+            refusal: refusals::tell(r),
+            state,
+        },
+    }
+}
+
+// The state after the call; 0 going on, 1 stopped, 2 refused with nothing changed; why, and the samples written.
+#[repr(C)]
+pub struct SegdGave {
+    pub state: State,
+    pub outcome: u32,
+    pub refusal: Told,
+    pub samples: u64,
+}
+
+fn gave(g: Gave) -> SegdGave
+    ensures { λ r. ⌜ r ≡ flatGave g ⌝ }
+{
+    let answer = g.answer;
+    let state = g.state;
+    match answer {
+        Answer::GoingOn { samples } => SegdGave {
+            state,
+            outcome: 0,
+            refusal: clear(),
+            samples: samples as u64,
+        },
+        Answer::Stopped { samples, refusal } => SegdGave {
+            state,
+            outcome: 1,
+            refusal: refusals::tell(refusal),
+            samples: samples as u64,
+        },
+        Answer::Refused(r) => SegdGave {
+            state,
+            outcome: 2,
+            refusal: refusals::tell(r),
+            samples: 0,
+        },
+    }
+}
+
+// `out` has two numbers for each byte of the portion, or more.
+#[no_mangle]
+pub extern "C" fn segd_portion(state: State, bytes: &[u8], out: &mut [i32]) -> SegdGave
+    ensures { λ r. ⌜ r ≡ flatGave (portion state (now (bytes .entry)) (length (now (out .entry)))) ⌝ }
+    ensures { λ r. ⌜ now (out .exit) ≡ over (written state (now (bytes .entry)) (length (now (out .entry)))) (now (out .entry)) ⌝ }
+{
+    gave(body::portion(state, bytes, out))
+}
+
+#[no_mangle]
+pub extern "C" fn segd_block_end(state: State) -> SegdGave
+    ensures { λ r. ⌜ r ≡ flatGave (blockEnd state) ⌝ }
+{
+    gave(body::block_end(state))
+}
+
+// The report; or a refusal, with the report all 0. `itb_known` and `window_known` are 0 where there is none.
+#[repr(C)]
+pub struct SegdClosing {
+    pub refusal: Told,
+    pub scans: u32,
+    pub off: u32,
+    pub samples: u64,
+    pub last_type: u32,
+    pub itb_known: u32,
+    pub itb: u32,
+    pub window_known: u32,
+    pub window: u32,
+}
+
+fn itb_known(itb: Itb) -> u32
+    ensures { λ r. ⌜ r ≡ itbKnown itb ⌝ }
+{
+    match itb {
+        Itb::None => 0,
+        Itb::Bit(_) => 1,
+    }
+}
+
+fn itb_bit(itb: Itb) -> u32
+    ensures { λ r. ⌜ r ≡ itbBit itb ⌝ }
+{
+    match itb {
+        Itb::None => 0,
+        Itb::Bit(b) => b,
+    }
+}
+
+fn window_known(window: Window) -> u32
+    ensures { λ r. ⌜ r ≡ windowKnown window ⌝ }
+{
+    match window {
+        Window::None => 0,
+        Window::At(_) => 1,
+    }
+}
+
+fn window_at(window: Window) -> u32
+    ensures { λ r. ⌜ r ≡ windowAt window ⌝ }
+{
+    match window {
+        Window::None => 0,
+        Window::At(t) => t,
+    }
+}
+
+fn why(answer: Closed) -> Told
+    ensures { λ r. ⌜ r ≡ flatAnswer answer ⌝ }
+{
+    match answer {
+        Closed::Whole => clear(),
+        Closed::Refused(r) => refusals::tell(r),
+    }
+}
+
+#[no_mangle]
+pub extern "C" fn segd_close(state: State) -> SegdClosing
+    ensures { λ r. ⌜ r ≡ flatClosing (close state) ⌝ }
+{
+    let closing = body::close(state);
+    let answer = closing.answer;
+    let report = closing.report;
+    let itb = report.itb;
+    let window = report.window;
+    SegdClosing {
+        refusal: why(answer),
+        scans: report.scans,
+        off: report.off,
+        samples: report.samples,
+        last_type: report.last_type,
+        itb_known: itb_known(itb),
+        itb: itb_bit(itb),
+        window_known: window_known(window),
+        window: window_at(window),
+    }
+}

@@ -1,0 +1,50 @@
+-- The first demand: whatever is handed in, every call ends with its answer or with the refusal that the description names. What it
+-- answers is each function's own contract, proved where the function stands; here stand what follows for all of them.
+-- Assumes nothing.
+use Prim.Native.Nat.{ℕ, _/_, _<_}
+use mathlib.Core.Path.{_≡_}
+use mathlib.Core.Bool.{true, false}
+use mathlib.Core.List.{List, []}
+use lib.IntN.{ℤ}
+use lib.ListN.{length}
+use Rattle.refusals.specs.declared.Refusal.{Refusal}
+use Rattle.refusals.specs.declared.Refusal.the-variants as refusal
+use Rattle.scan.specs.declared.State.{State}
+use Rattle.scan.specs.Fit.{fitb}
+use Rattle.body.specs.declared.Gave.{Gave}
+use Rattle.body.specs.declared.Answer.the-variants.{Stopped}
+use Rattle.body.specs.Calls as calls
+use Rattle.body.specs.Ends as ends
+use Rattle.agree.specs.Calls.{Call, readOn}
+use Rattle.agree.specs.Agreement.{TurnedAway}
+use Rattle.demands.specs.Unique.{Unique}
+
+-- a state as it is, with a refusal from before and no sample written
+abbrev pub stands : State → Refusal → Gave
+stands s r = record { state = s; answer = Stopped 0 r }
+
+-- "writes nothing further, and gives the same refusal from then on": from every later call, whatever it is lent, however many there are
+pub record SameStop (s : State) (r : Refusal) : Type 0 where
+  pub portions : (bs : List ℕ) (room : ℕ) → calls.portion s bs room ≡ stands s r
+  pub written : (bs : List ℕ) (room : ℕ) → calls.written s bs room ≡ []
+  pub blockEnds : ends.blockEnd s ≡ stands s r
+  pub closes : ends.close s ≡ ends.refused r
+  pub forever : (w : List ℤ) (cs : List Call) → readOn (record { state = s; written = w }) cs ≡ record { state = s; written = w }
+
+-- "23 changes nothing and stops nothing"
+pub record Unmoved (s : State) : Type 0 where
+  pub portions : (bs : List ℕ) (room : ℕ) → calls.portion s bs room ≡ calls.unchanged s refusal.State
+  pub written : (bs : List ℕ) (room : ℕ) → calls.written s bs room ≡ []
+  pub blockEnds : ends.blockEnd s ≡ calls.unchanged s refusal.State
+  pub closes : ends.close s ≡ ends.refused refusal.State
+
+pub record Demand1 : Type 0 where
+  -- every contract leaves one answer, refusals included, and one content of what is lent
+  pub one : Unique
+  -- a body that has stopped stays so
+  pub stopped : (s : State) → fitb s ≡ true → (s .stop ≡ 0 → ⊥) → SameStop s (calls.stopOf (s .stop) (s .stopat))
+  -- an unfit state, such as that of a refused opening, is refused by every call
+  pub unfit : (s : State) → fitb s ≡ false → Unmoved s
+  pub unopened : TurnedAway
+  -- a portion that the output has no room for leaves no trace
+  pub room : (s : State) (bs : List ℕ) (room : ℕ) → fitb s ≡ true → s .stop ≡ 0 → room / 2 < length bs → (calls.portion s bs room ≡ calls.unchanged s refusal.Room) × (calls.written s bs room ≡ [])

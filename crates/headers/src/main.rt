@@ -1,0 +1,16 @@
+// The bench figures of headers and of the samples that they place, run and not proved: a line each, compared with the file stdout
+// beside this folder.
+mod answers;
+mod blocks;
+mod print;
+mod samples;
+
+fn main() {
+    answers::of_one_interval();
+    answers::of_two_intervals();
+    answers::turned_away();
+    samples::of_e6();
+    samples::of_e8();
+    samples::of_dummies();
+    samples::of_many();
+}

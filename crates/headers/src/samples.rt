@@ -1,0 +1,200 @@
+// Channel sets and samples: what a set is, where a sample stands, its skew and its time.
+use crate::answers::block;
+use crate::blocks::between_dummies;
+use crate::blocks::doubled;
+use crate::blocks::many;
+use crate::blocks::one_set;
+use crate::blocks::put;
+use crate::blocks::switched;
+use crate::print::length;
+use crate::print::number;
+use crate::print::refused;
+use crate::print::text;
+use header::Described;
+use layout::Index;
+use layout::Place;
+use parts::Skewed;
+use parts::Timed;
+use refusals::Fault;
+
+// A name and two numbers: a set or a sample after its scan type, a channel in a subscan.
+fn pair(name: &[u8], first: u32, second: u32) {
+    text(name);
+    number(first);
+    text(b" ");
+    number(second);
+}
+
+// Byte n of a block or a sheet made x.
+fn mark(name: &[u8], b: &mut [u8], n: u32, x: u8) {
+    put(b, n as usize, x);
+    text(name);
+    number(n);
+    text(b" made ");
+    number(x as u32);
+    text(b"\n");
+}
+
+fn described(b: &[u8], scan_type: u32, set: u32) {
+    pair(b"set ", scan_type, set);
+    text(b": ");
+    let answer = header::descriptor(b, scan_type, set);
+    match answer {
+        Described::Set(s) => {
+            number(s.channels as u32);
+            text(b" channels of type ");
+            number(s.channel_type as u32);
+            text(b", exponent ");
+            number(s.subscan_exponent as u32);
+            text(b"\n");
+        }
+        Described::NoSet(r) => refused(r),
+    }
+}
+
+// Where sample k stands.
+fn placed(b: &[u8], scan_type: u32, k: u32) {
+    pair(b"sample ", scan_type, k);
+    text(b": ");
+    let answer = layout::sample_place(b, scan_type, k);
+    match answer {
+        Place::Sits {
+            set,
+            channel,
+            subscan,
+        } => {
+            pair(b"channel ", scan_type, set);
+            pair(b" ", channel, subscan);
+            text(b"\n");
+        }
+        Place::NoPlace(r) => refused(r),
+    }
+}
+
+fn skewed(b: &[u8], sheet: &[u8], scan_type: u32, k: u32) {
+    text(b"sample ");
+    number(k);
+    length(b", sheet of ", sheet);
+    text(b"skew ");
+    let answer = parts::skew_at(b, sheet, scan_type, k);
+    match answer {
+        Skewed::Skew(x) => {
+            number(x as u32);
+            text(b"\n");
+        }
+        Skewed::NoSkew(r) => refused(r),
+    }
+}
+
+// The number of a channel's sample, and its skew.
+fn numbered(b: &[u8], sheet: &[u8], scan_type: u32, set: u32, channel: u32, subscan: u32) {
+    pair(b"channel ", scan_type, set);
+    pair(b" ", channel, subscan);
+    text(b": ");
+    let answer = layout::sample_index(b, scan_type, set, channel, subscan);
+    match answer {
+        Index::Sample(k) => skewed(b, sheet, scan_type, k),
+        Index::NoSample(r) => refused(r),
+    }
+}
+
+// The time of a sample in a scan with timing word t.
+fn timed(b: &[u8], sheet: &[u8], scan_type: u32, k: u32, t: u32) {
+    pair(b"sample ", scan_type, k);
+    text(b" at ");
+    number(t);
+    length(b", sheet of ", sheet);
+    let answer = parts::sample_time(b, sheet, scan_type, k, t);
+    match answer {
+        Timed::Time(x) => {
+            number(x);
+            text(b"\n");
+        }
+        Timed::NoTime(r) => refused(r),
+    }
+}
+
+fn sheet_of(b: &[u8], sheet: &[u8]) {
+    length(b"sheet of ", sheet);
+    let f = parts::skew_refusal(b, sheet, 1);
+    match f {
+        Fault::Clear => text(b"fits\n"),
+        Fault::At(r) => refused(r),
+    }
+}
+
+// E6: byte 203 is byte 11 of set 2 of scan type 2, whose upper half is the channel type.
+pub(crate) fn of_e6() {
+    let mut b = [0; 288];
+    switched(&mut b);
+    mark(b"byte ", &mut b, 203, 0x50);
+    described(&b, 1, 2);
+    described(&b, 2, 1);
+    described(&b, 2, 2);
+    described(&b, 2, 3);
+    described(&b, 3, 1);
+}
+
+// E8: bytes 367 and 415 are the skew of channel 11 of set 2 of scan type 2, in its two subscans. The base scan is 4 ms.
+pub(crate) fn of_e8() {
+    let mut b = [0; 480];
+    doubled(&mut b);
+    put(&mut b, 23, 64);
+    mark(b"byte ", &mut b, 367, 111);
+    mark(b"byte ", &mut b, 415, 159);
+    samples_of_e8(&b, &[7; 3]);
+}
+
+// The sheet is not looked at.
+fn samples_of_e8(b: &[u8], sheet: &[u8]) {
+    numbered(b, sheet, 2, 2, 11, 0);
+    numbered(b, sheet, 2, 2, 11, 1);
+    numbered(b, sheet, 2, 2, 11, 2);
+    numbered(b, sheet, 2, 2, 49, 0);
+    numbered(b, sheet, 2, 3, 1, 0);
+    placed(b, 2, 62);
+    placed(b, 2, 99);
+    placed(b, 2, 100);
+    timed(b, sheet, 2, 62, 0);
+}
+
+// Sets of no channels, and a scan of no samples.
+pub(crate) fn of_dummies() {
+    let mut b = [0; 128];
+    between_dummies(&mut b);
+    block(b"of dummy sets", &b);
+    placed(&b, 1, 0);
+    placed(&b, 1, 3);
+    placed(&b, 1, 4);
+    let mut none = [0; 64];
+    one_set(&mut none, 0x0008, 0x0000, 0);
+    block(b"of no samples", &none);
+    placed(&none, 1, 0);
+    sheet_of(&none, b"");
+    sheet_of(&none, &[0; 2]);
+}
+
+// As many scan types as there can be. The last one's 4 samples have bytes 393 to 396 of the sheet, and byte 3181 is byte 13 of its set.
+pub(crate) fn of_many() {
+    let mut b = [0; 3200];
+    many(&mut b);
+    block(b"of 99 scan types", &b);
+    described(&b, 99, 1);
+    described(&b, 100, 1);
+    let mut sheet = [0; 396];
+    mark(b"sheet's byte ", &mut sheet, 393, 1);
+    by_sheet(&b, &sheet, &[1; 395]);
+    put(&mut b, 3181, 0x1A);
+    block(b"with 1A in byte 3181", &b);
+}
+
+fn by_sheet(b: &[u8], sheet: &[u8], short: &[u8]) {
+    numbered(b, sheet, 99, 1, 1, 0);
+    numbered(b, sheet, 99, 1, 2, 0);
+    numbered(b, short, 99, 1, 1, 0);
+    timed(b, sheet, 99, 0, 512);
+    timed(b, sheet, 99, 0, 0xFFFFFF);
+    timed(b, sheet, 99, 0, 0x1000000);
+    timed(b, short, 99, 0, 0x1000000);
+    timed(b, short, 99, 0, 512);
+}

@@ -1,0 +1,4 @@
+pub mod Facts
+pub mod SetLaws
+pub mod Inverses
+pub mod WordLaws

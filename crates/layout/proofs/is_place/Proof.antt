@@ -1,0 +1,51 @@
+-- `layout::is_place` meets its contract.
+-- Assumes nothing.
+use Prim.Native.Nat.{_≤_}
+use mathlib.Core.Path.{sym, _∙_}
+use native.Mathlib.Omega.{arith}
+use borrow.Author.Tests.{not-false, not-true}
+use Rattle.basis.specs.Choice.{_and_}
+use borrow.Author.Needs.{needs}
+use Rattle.sets.specs.Samples.{samplesOf}
+use Rattle.layout.specs.Indexes.{isPlace}
+use Rattle.layout.proofs.Facts.{scan-small}
+use Rattle.layout.proofs.is_place.Statement.{statement}
+use Rattle.layout.proofs.is_place.Tie as tie
+
+small : (c : tie.Else1) → (1 ≤ c .before .before .before .args .t) × (c .before .before .before .args .t ≤ 99)
+small c = scan-small _ _ (c .before .before .before .pre) (sym (c .before .is-scan-type .ensures) ∙ not-false _ (c .if1 .left))
+
+is-scan-type-requires : tie.Need-is-scan-type-requires
+is-scan-type-requires c κs = search needs
+
+returns : tie.Need-returns
+unfolding isPlace _and_
+returns c = rw (← c .before .is-scan-type .ensures, not-true (c .before .is-scan-type .result) (c .if1 .taken))
+
+sub-samples-before : tie.Need-sub-samples-before
+sub-samples-before c = omega (arith, small c .0)
+
+cast-samples-before : tie.Need-cast-samples-before
+cast-samples-before c = omega (arith, small c .1)
+
+pair-at-requires : tie.Need-pair-at-requires
+pair-at-requires c κs = search needs
+
+samples-before-requires : tie.Need-samples-before-requires
+samples-before-requires c κs = search needs
+
+returns-2 : tie.Need-returns-2
+unfolding isPlace _and_ samplesOf
+returns-2 c = rw (← c .before .before .before .is-scan-type .ensures, not-false (c .before .before .before .is-scan-type .result) (c .before .before .if1 .left), ← c .before .pair-at .ensures .0, ← c .samples-before .ensures .0)
+
+pub is-place-spec : {M : Type 1} → statement M
+is-place-spec =
+    tie.close
+    (tie.spec
+    is-scan-type-requires
+    returns
+    sub-samples-before
+    cast-samples-before
+    pair-at-requires
+    samples-before-requires
+    returns-2)

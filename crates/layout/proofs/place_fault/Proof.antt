@@ -1,0 +1,44 @@
+-- `layout::place_fault` meets its contract.
+-- Assumes nothing.
+use mathlib.Core.Path.{sym, _∙_}
+use borrow.Author.Needs.{needs}
+use Rattle.basis.specs.Choice.{pick}
+use Rattle.layout.specs.Indexes.{placeFault}
+use Rattle.layout.proofs.place_fault.Statement.{statement}
+use Rattle.layout.proofs.place_fault.Tie as tie
+
+header-fault-requires : tie.Need-header-fault-requires
+header-fault-requires c κs = search needs
+
+enum-known-f : tie.Need-enum-known-f
+enum-known-f c = search needs
+
+returns : tie.Need-returns
+unfolding placeFault
+returns c = rw (← c .before .before .before .header-fault .ensures, c .before .f .given .1)
+
+enum-told : tie.Need-enum-told
+enum-told c = search needs
+
+is-place-requires : tie.Need-is-place-requires
+is-place-requires c κs = sym (c .before .before .header-fault .ensures) ∙ c .enum-told .given .1
+
+returns-2 : tie.Need-returns-2
+unfolding placeFault pick
+returns-2 c = rw (← c .before .before .before .before .header-fault .ensures, c .before .before .enum-told .given .1, ← c .before .is-place .ensures, c .if1 .taken)
+
+returns-3 : tie.Need-returns-3
+unfolding placeFault pick
+returns-3 c = rw (← c .before .before .before .before .header-fault .ensures, c .before .before .enum-told .given .1, ← c .before .is-place .ensures, c .if1 .left)
+
+pub place-fault-spec : {M : Type 1} → statement M
+place-fault-spec =
+    tie.close
+    (tie.spec
+    header-fault-requires
+    enum-known-f
+    returns
+    enum-told
+    is-place-requires
+    returns-2
+    returns-3)

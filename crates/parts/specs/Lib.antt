@@ -1,0 +1,4 @@
+pub mod Slices
+pub mod Parts
+pub mod Skews
+pub mod Times

@@ -1,0 +1,7 @@
+pub mod Uptos
+pub mod Tapes
+pub mod First
+pub mod Machine
+pub mod Counts
+pub mod Laws
+pub mod CaseL

@@ -1,0 +1,1 @@
+// The rules of an uncut body: definitions only (specs/), and laws about them (proofs/).

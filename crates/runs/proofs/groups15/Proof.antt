@@ -1,0 +1,78 @@
+-- `runs::groups15` meets its contract: its loop keeps that the first k words are written.
+-- Assumes nothing.
+use Prim.Native.Nat.{_-_, _*_, _/_}
+use mathlib.Core.Path.{refl, _∙_}
+use native.Mathlib.Omega.{arith}
+use denote.Ref.{now}
+use lib.ListN.{length}
+use Rattle.runs.specs.Words.{groupedValue}
+use Rattle.runs.proofs.Done.{Done, done-none, done-more, loop-ends}
+use Rattle.runs.proofs.groups15.Statement.{statement}
+use Rattle.runs.proofs.groups15.Tie as tie
+
+abbrev Inv-loop : tie.InvT-loop
+Inv-loop bytes out₀ n off₀ k₀ out off k = Done (groupedValue 0x0015 bytes) (length bytes / 10 * 4) n out₀ out off k
+
+abbrev μ-loop : tie.MeasureT-loop
+μ-loop bytes out₀ n off₀ k₀ out off k = n - k
+
+mul-least : tie.Need-mul-least Inv-loop μ-loop
+mul-least c = omega arith
+
+least-requires : tie.Need-least-requires Inv-loop μ-loop
+least-requires c κs = tt
+
+loop-holds : tie.Need-loop-holds Inv-loop μ-loop
+loop-holds c = done-none _ _ _ _ (c .least .ensures)
+
+exponent-requires : tie.Need-exponent-requires Inv-loop μ-loop
+exponent-requires c κs = omega arith
+
+fraction-requires : tie.Need-fraction-requires Inv-loop μ-loop
+fraction-requires c κs = omega arith
+
+value15-requires : tie.Need-value15-requires Inv-loop μ-loop
+value15-requires c κs = tt
+
+count-requires : tie.Need-count-requires Inv-loop μ-loop
+count-requires c κs = omega arith
+
+put-requires : tie.Need-put-requires Inv-loop μ-loop
+put-requires c κs = omega arith
+
+add-k : tie.Need-add-k Inv-loop μ-loop
+add-k c = omega arith
+
+loop-less : tie.Need-loop-less Inv-loop μ-loop
+loop-less c = omega arith
+
+loop-again : tie.Need-loop-again Inv-loop μ-loop
+unfolding groupedValue
+loop-again c =
+    rw (c .before .put .ensures) (done-more (c .before .before .before .before .before .before .before .before .loop .inv) (c .before .before .before .before .before .before .before .loop-test .taken) (c .before .before .before .before .value15 .ensures ∙ rw (c .before .before .before .before .before .fraction .ensures, c .before .before .before .before .before .before .exponent .ensures)) (c .before .before .before .count .ensures))
+
+same-length : tie.Need-same-length Inv-loop μ-loop
+same-length c = c .before .loop .inv .same
+
+returns : tie.Need-returns Inv-loop μ-loop
+returns c = loop-ends 10 4 (groupedValue 0x0015) (now (c .before .before .before .before .args .bytes)) refl (c .before .loop .inv) (c .loop-test .left)
+
+pub groups15-spec : {M : Type 1} → statement M
+groups15-spec =
+    tie.close
+    (tie.spec
+    Inv-loop
+    μ-loop
+    mul-least
+    least-requires
+    loop-holds
+    exponent-requires
+    fraction-requires
+    value15-requires
+    count-requires
+    put-requires
+    add-k
+    loop-less
+    loop-again
+    same-length
+    returns)

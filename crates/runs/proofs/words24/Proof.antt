@@ -1,0 +1,75 @@
+-- `runs::words24` meets its contract: its loop keeps that the first k words are written.
+-- Assumes nothing.
+use Prim.Native.Nat.{_-_, _/_}
+use mathlib.Core.Path.{sym, _∙_}
+use native.Mathlib.Nat.{mul-one}
+use native.Mathlib.Omega.{arith}
+use denote.Ref.{now}
+use lib.ListN.{length}
+use Rattle.runs.specs.Words.{plainValue}
+use Rattle.runs.proofs.Done.{Done, done-none, done-more, loop-ends}
+use Rattle.runs.proofs.words24.Statement.{statement}
+use Rattle.runs.proofs.words24.Tie as tie
+
+abbrev Inv-loop : tie.InvT-loop
+Inv-loop bytes out₀ n off₀ k₀ out off k = Done (plainValue 0x0024 2 bytes) (length bytes / 2) n out₀ out off k
+
+abbrev μ-loop : tie.MeasureT-loop
+μ-loop bytes out₀ n off₀ k₀ out off k = n - k
+
+least-requires : tie.Need-least-requires Inv-loop μ-loop
+least-requires c κs = tt
+
+loop-holds : tie.Need-loop-holds Inv-loop μ-loop
+loop-holds c = done-none _ _ _ _ (c .least .ensures)
+
+mul-pair : tie.Need-mul-pair Inv-loop μ-loop
+mul-pair c = omega arith
+
+pair-requires : tie.Need-pair-requires Inv-loop μ-loop
+pair-requires c κs = omega arith
+
+value24-requires : tie.Need-value24-requires Inv-loop μ-loop
+value24-requires c κs = tt
+
+count-requires : tie.Need-count-requires Inv-loop μ-loop
+count-requires c κs = omega arith
+
+put-requires : tie.Need-put-requires Inv-loop μ-loop
+put-requires c κs = omega arith
+
+add-k : tie.Need-add-k Inv-loop μ-loop
+add-k c = omega arith
+
+loop-less : tie.Need-loop-less Inv-loop μ-loop
+loop-less c = omega arith
+
+loop-again : tie.Need-loop-again Inv-loop μ-loop
+unfolding plainValue
+loop-again c =
+    rw (c .before .put .ensures) (done-more (c .before .before .before .before .before .before .before .loop .inv) (c .before .before .before .before .before .before .loop-test .taken) (c .before .before .before .before .value24 .ensures ∙ rw (c .before .before .before .before .before .pair .ensures)) (c .before .before .before .count .ensures))
+
+same-length : tie.Need-same-length Inv-loop μ-loop
+same-length c = c .before .loop .inv .same
+
+returns : tie.Need-returns Inv-loop μ-loop
+returns c = loop-ends 2 1 (plainValue 0x0024 2) (now (c .before .before .before .before .args .bytes)) (sym (mul-one _)) (c .before .loop .inv) (c .loop-test .left)
+
+pub words24-spec : {M : Type 1} → statement M
+words24-spec =
+    tie.close
+    (tie.spec
+    Inv-loop
+    μ-loop
+    least-requires
+    loop-holds
+    mul-pair
+    pair-requires
+    value24-requires
+    count-requires
+    put-requires
+    add-k
+    loop-less
+    loop-again
+    same-length
+    returns)

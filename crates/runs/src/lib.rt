@@ -1,0 +1,171 @@
+// Whole sample words, read one after another: a loop for each code, whose decoder is made of constants.
+ghost use mathlib.Core.Path.{_≡_};
+ghost use Prim.Native.Nat.{min, _+_, _*_, _/_, _%_, _<_};
+ghost use lib.ListN.{length, set};
+ghost use Rattle.basis.specs.Digits.{written};
+ghost use Rattle.runs.specs.Words.{byteIn, groupExponent, groupWord, tableValue, plainValue, groupedValue};
+ghost use Rattle.runs.specs.Runs.{offOne, ran, filled};
+use words::Value;
+
+// What a run came to: the samples that it wrote, and how many of their words are off rule.
+pub struct Ran {
+    pub samples: usize,
+    pub off: usize,
+}
+
+fn least(a: usize, b: usize) -> usize
+    ensures { λ r. ⌜ r ≡ min a b ⌝ }
+{
+    if a <= b { a } else { b }
+}
+
+// Off-rule words, with one word more.
+fn count(off: usize, w: Value) -> usize
+    requires { ⌜ off < 0x7FFF_FFFF_FFFF_FFFF ⌝ }
+    ensures { λ r. ⌜ r ≡ off + offOne w ⌝ }
+{
+    if w.off { off + 1 } else { off }
+}
+
+// Writes sample k, M and then X.
+fn put(out: &mut [i32], k: usize, w: Value)
+    requires { ⌜ 2 * k + 1 < length (now out) ⌝ }
+    ensures { λ _. ⌜ now (out .exit) ≡ set (set (now (out .entry)) (2 * k) (w .m)) (2 * k + 1) (w .x) ⌝ }
+{
+    let m = w.m;
+    let x = w.x;
+    out[2 * k] = m;
+    out[2 * k + 1] = x;
+}
+
+// The two bytes from i on.
+fn pair(bytes: &[u8], i: usize) -> u16
+    requires { ⌜ i + 1 < length (now bytes) ⌝ }
+    ensures { λ r. ⌜ r ≡ written 256 (byteIn (now (bytes .entry))) i 2 ⌝ }
+{
+    (bytes[i] as u16) * 256 + (bytes[i + 1] as u16)
+}
+
+// The four bytes from i on.
+fn four(bytes: &[u8], i: usize) -> u32
+    requires { ⌜ i + 3 < length (now bytes) ⌝ }
+    ensures { λ r. ⌜ r ≡ written 256 (byteIn (now (bytes .entry))) i 4 ⌝ }
+{
+    (pair(bytes, i) as u32) * 65536 + (pair(bytes, i + 2) as u32)
+}
+
+// The exponent of word k of groups of 0015, in the lowest four bits.
+fn exponent(bytes: &[u8], k: usize) -> u32
+    requires { ⌜ 10 * (k / 4) + 1 < length (now bytes) ⌝ }
+    ensures { λ r. ⌜ r % 16 ≡ groupExponent (now (bytes .entry)) k ⌝ }
+{
+    (pair(bytes, 10 * (k / 4)) as u32) >> (12 - 4 * ((k % 4) as u32))
+}
+
+// Word k of groups of 0015.
+fn fraction(bytes: &[u8], k: usize) -> u16
+    requires { ⌜ 10 * (k / 4) + 9 < length (now bytes) ⌝ }
+    ensures { λ r. ⌜ r ≡ groupWord (now (bytes .entry)) k ⌝ }
+{
+    pair(bytes, 10 * (k / 4) + 2 + 2 * (k % 4))
+}
+
+// Words of one byte, by the table lent.
+pub fn bytes_by(table: &[u16; 256], bytes: &[u8], out: &mut [i32]) -> Ran
+    ensures { λ r. ⌜ r ≡ ran 1 1 (tableValue (now (table .entry))) (now (bytes .entry)) (now (out .entry)) ⌝ }
+    ensures { λ r. ⌜ now (out .exit) ≡ filled 1 1 (tableValue (now (table .entry))) (now (bytes .entry)) (now (out .entry)) ⌝ }
+{
+    let n = least(bytes.len(), out.len() / 2);
+    let mut off: usize = 0;
+    let mut k: usize = 0;
+    while k < n {
+        let w = words::by_byte(table, bytes[k]);
+        off = count(off, w);
+        put(out, k, w);
+        k += 1;
+    }
+    Ran {
+        samples: n,
+        off: off,
+    }
+}
+
+// Words of 0024.
+pub fn words24(bytes: &[u8], out: &mut [i32]) -> Ran
+    ensures { λ r. ⌜ r ≡ ran 2 1 (plainValue 0x0024 2) (now (bytes .entry)) (now (out .entry)) ⌝ }
+    ensures { λ r. ⌜ now (out .exit) ≡ filled 2 1 (plainValue 0x0024 2) (now (bytes .entry)) (now (out .entry)) ⌝ }
+{
+    let n = least(bytes.len() / 2, out.len() / 2);
+    let mut off: usize = 0;
+    let mut k: usize = 0;
+    while k < n {
+        let w = words::value24(pair(bytes, 2 * k));
+        off = count(off, w);
+        put(out, k, w);
+        k += 1;
+    }
+    Ran {
+        samples: n,
+        off: off,
+    }
+}
+
+// Words of 0044.
+pub fn words44(bytes: &[u8], out: &mut [i32]) -> Ran
+    ensures { λ r. ⌜ r ≡ ran 2 1 (plainValue 0x0044 2) (now (bytes .entry)) (now (out .entry)) ⌝ }
+    ensures { λ r. ⌜ now (out .exit) ≡ filled 2 1 (plainValue 0x0044 2) (now (bytes .entry)) (now (out .entry)) ⌝ }
+{
+    let n = least(bytes.len() / 2, out.len() / 2);
+    let mut off: usize = 0;
+    let mut k: usize = 0;
+    while k < n {
+        let w = words::value44(pair(bytes, 2 * k));
+        off = count(off, w);
+        put(out, k, w);
+        k += 1;
+    }
+    Ran {
+        samples: n,
+        off: off,
+    }
+}
+
+// Words of 0048.
+pub fn words48(bytes: &[u8], out: &mut [i32]) -> Ran
+    ensures { λ r. ⌜ r ≡ ran 4 1 (plainValue 0x0048 4) (now (bytes .entry)) (now (out .entry)) ⌝ }
+    ensures { λ r. ⌜ now (out .exit) ≡ filled 4 1 (plainValue 0x0048 4) (now (bytes .entry)) (now (out .entry)) ⌝ }
+{
+    let n = least(bytes.len() / 4, out.len() / 2);
+    let mut off: usize = 0;
+    let mut k: usize = 0;
+    while k < n {
+        let w = words::value48(four(bytes, 4 * k));
+        off = count(off, w);
+        put(out, k, w);
+        k += 1;
+    }
+    Ran {
+        samples: n,
+        off: off,
+    }
+}
+
+// Groups of 0015.
+pub fn groups15(bytes: &[u8], out: &mut [i32]) -> Ran
+    ensures { λ r. ⌜ r ≡ ran 10 4 (groupedValue 0x0015) (now (bytes .entry)) (now (out .entry)) ⌝ }
+    ensures { λ r. ⌜ now (out .exit) ≡ filled 10 4 (groupedValue 0x0015) (now (bytes .entry)) (now (out .entry)) ⌝ }
+{
+    let n = least(bytes.len() / 10 * 4, out.len() / 2);
+    let mut off: usize = 0;
+    let mut k: usize = 0;
+    while k < n {
+        let w = words::value15(exponent(bytes, k), fraction(bytes, k));
+        off = count(off, w);
+        put(out, k, w);
+        k += 1;
+    }
+    Ran {
+        samples: n,
+        off: off,
+    }
+}

@@ -1,0 +1,4 @@
+pub mod Choices
+pub mod Shapes
+pub mod Keep
+pub mod Fold
