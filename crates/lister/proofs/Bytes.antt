@@ -1,0 +1,58 @@
+-- Bytes taken from bytes are bytes.
+-- Assumes nothing.
+use Prim.Native.Nat.{ℕ, zero, suc, _<_}
+use mathlib.Core.Bool.{Bool, true, false}
+use mathlib.Core.List.{List, [], _∷_, _++_}
+use lib.ListN.{length, take, drop}
+use Rattle.basis.proofs.Choices.{pick-both}
+use Rattle.framing.specs.Image.{Reading, lengthOf, itemsOf, readingOf}
+use Rattle.framing.specs.Cuts.{joined}
+use Rattle.agree.specs.Calls.{Bytes}
+use Rattle.lister.specs.Turn.{Portions}
+
+pub bytes-append : (xs ys : List ℕ) → Bytes xs → Bytes ys → Bytes (xs ++ ys)
+bytes-append [] ys p q = q
+bytes-append (x ∷ xs) ys p q = (p .0, bytes-append xs ys (p .1) q)
+
+pub bytes-take : (n : ℕ) (xs : List ℕ) → Bytes xs → Bytes (take n xs)
+bytes-take zero xs p = tt
+bytes-take (suc n) [] p = tt
+bytes-take (suc n) (x ∷ xs) p = (p .0, bytes-take n xs (p .1))
+
+pub bytes-drop : (n : ℕ) (xs : List ℕ) → Bytes xs → Bytes (drop n xs)
+bytes-drop zero xs p = p
+bytes-drop (suc n) [] p = tt
+bytes-drop (suc n) (x ∷ xs) p = bytes-drop n xs (p .1)
+
+-- all items are bytes
+abbrev pub Items : List (List ℕ) → Type 0
+Items [] = Unit {0}
+Items (i ∷ is) = Bytes i × Items is
+
+pub items-append : (xs ys : List (List ℕ)) → Items xs → Items ys → Items (xs ++ ys)
+items-append [] ys p q = q
+items-append (x ∷ xs) ys p q = (p .0, items-append xs ys (p .1) q)
+
+pub bytes-joined : (most : ℕ) (ps : List (List ℕ)) → Portions most ps → Bytes (joined ps)
+bytes-joined most [] k = tt
+bytes-joined most (p ∷ ps) k = bytes-append p (joined ps) (k .0 .1) (bytes-joined most ps (k .1))
+
+-- an image of bytes has items of bytes
+Whole : Reading → Type 0
+Whole r = Items (r .items)
+
+items-of : (most : ℕ) (m : Bool) (bytes : List ℕ) → Bytes bytes → Whole (itemsOf most m bytes)
+unfolding Whole
+items-of zero m bytes p = tt
+items-of (suc most) m bytes p =
+    pick-both Whole _ tt
+    (pick-both Whole _
+    (tt, pick-both Whole m tt (items-of most true (drop 4 bytes) (bytes-drop 4 bytes p)))
+    (pick-both Whole _
+    (bytes-take (lengthOf bytes) (drop 4 bytes) (bytes-drop 4 bytes p), items-of most false (drop (lengthOf bytes) (drop 4 bytes)) (bytes-drop (lengthOf bytes) (drop 4 bytes) (bytes-drop 4 bytes p)))
+    tt))
+
+pub items-bytes : (image : List ℕ) → Bytes image → Items (readingOf image .items)
+unfolding Whole
+items-bytes [] p = tt
+items-bytes (v ∷ rest) p = pick-both Whole _ (items-of (length rest) false rest (p .1)) tt

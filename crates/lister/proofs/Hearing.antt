@@ -1,0 +1,186 @@
+-- The lister's steps follow what is told of the image.
+-- Assumes nothing.
+use Prim.Native.Nat.{ℕ, _+_, _/_, _≤_, _<_}
+use mathlib.Core.Path.{_≡_, refl, ap, _∙_}
+use mathlib.Core.Bool.{Bool, true, false}
+use mathlib.Core.List.{List, [], _∷_, _++_, map, append-nil}
+use native.Mathlib.Omega.{arith}
+use borrow.Author.Tests.{le-leb, le-ltb}
+use lib.Dec.{leb}
+use lib.IntN.{ℤ}
+use lib.ListN.{length, take, drop, length-append, length-drop}
+use lib.Seq.{sets, sets-eq, take-at, length-sets, take-append-seam}
+use Rattle.basis.specs.Choice.{pick}
+use Rattle.framing.specs.declared.Met.{Met}
+use Rattle.framing.specs.declared.Met.the-variants.{Framing, Part, Whole, Mark}
+use Rattle.framing.specs.Cuts.{byte, close, mark, tells}
+use Rattle.listing.specs.Lines.{lineOf}
+use Rattle.listing.specs.Lent.{storedIn}
+use Rattle.lister.specs.declared.file.File.{File}
+use Rattle.lister.specs.declared.file.File.the-variants.{Empty, Heading, Large, Refused, Blocks}
+use Rattle.lister.specs.declared.file.Said.{Said}
+use Rattle.lister.specs.declared.file.Said.the-variants.{Nothing, Line}
+use Rattle.lister.specs.File.{partOf, bufferAfter, numbersAfter, itemEnd, saidOf}
+use Rattle.agree.specs.Calls.{Bytes}
+use Rattle.lister.specs.Turn.{nextNumber, marked, markedLine, heardOf, heardHeader, heardNumbers, heardLine}
+use Rattle.lister.proofs.Reader.{numbers-length}
+use Rattle.lister.proofs.Bytes.{Items, bytes-append, items-append}
+use Rattle.lister.proofs.Form.{fileAt, countBy, textBy, part-form, end-form}
+use Rattle.lister.proofs.Telling.{Sum, tell, tellAll, tell-append, tell-bytes, with-more}
+
+-- the lister has what was told; the header's buffer keeps the bytes of a header item that fits
+pub record Rel (u : Sum) (f : File) (count : ℕ) (header out : List ℕ) : Type 0 where
+  pub file-is : f ≡ fileAt (length header) (u .items) (u .have)
+  pub count-is : count ≡ u .count
+  pub out-is : out ≡ u .out
+  pub whole : Items (u .items)
+  pub some : Bytes (u .have)
+  pub kept : u .items ≡ [] → length (u .have) ≤ length header → take (length (u .have)) header ≡ u .have
+
+stored-length : (header bytes : List ℕ) (at : ℕ) → length (storedIn header at bytes) ≡ length header
+unfolding pick
+stored-length header bytes at = go (leb (at + length bytes) (length header))
+  where
+    go : (t : Bool) → length (pick t (sets header at bytes) header) ≡ length header
+    go true = length-sets header at bytes
+    go false = refl
+
+pub buffer-length : (f : File) (bytes header : List ℕ) → length (bufferAfter f bytes header) ≡ length header
+buffer-length Empty bytes header = stored-length header bytes 0
+buffer-length (Heading got) bytes header = stored-length header bytes got
+buffer-length Large bytes header = refl
+buffer-length (Refused r) bytes header = refl
+buffer-length (Blocks file format s) bytes header = refl
+
+numbers-kept : (f : File) (bytes : List ℕ) (numbers : List ℤ) → length (numbersAfter f bytes numbers) ≡ length numbers
+numbers-kept Empty bytes numbers = refl
+numbers-kept (Heading got) bytes numbers = refl
+numbers-kept Large bytes numbers = refl
+numbers-kept (Refused r) bytes numbers = refl
+numbers-kept (Blocks file format s) bytes numbers = numbers-length s bytes numbers
+
+stored-kept : (header have bytes : List ℕ) → length have + length bytes ≤ length header → take (length have) header ≡ have
+    → take (length (have ++ bytes)) (storedIn header (length have) bytes) ≡ have ++ bytes
+unfolding pick
+stored-kept header have bytes h e =
+    rw (le-leb (length have + length bytes) (length header) h, sets-eq bytes header (length have) h, e)
+    (take-at (have ++ bytes) (drop (length have + length bytes) header) (length (have ++ bytes)) refl)
+
+buffer-kept : (header have bytes : List ℕ) → length (have ++ bytes) ≤ length header → take (length have) header ≡ have
+    → take (length (have ++ bytes)) (bufferAfter (fileAt (length header) [] have) bytes header) ≡ have ++ bytes
+unfolding pick
+buffer-kept header [] bytes h e = stored-kept header [] bytes (omega arith) e
+buffer-kept header (x ∷ xs) bytes h e =
+    let l : length ((x ∷ xs) ++ bytes) ≡ length (x ∷ xs) + length bytes = length-append (x ∷ xs) bytes in
+    let t : leb (length (x ∷ xs)) (length header) ≡ true = le-leb (length (x ∷ xs)) (length header) (omega arith) in
+    rw t (stored-kept header (x ∷ xs) bytes (omega arith) e)
+
+-- some bytes of an item
+hear-part : (u : Sum) (f : File) (count : ℕ) (header : List ℕ) (numbers : List ℤ) (out : List ℕ) (y : ℕ) (ys : List ℕ) → length (y ∷ ys) ≤ length numbers / 2 → Bytes (y ∷ ys)
+    → Rel u f count header out
+    → Rel (with-more u (y ∷ ys)) (partOf f (y ∷ ys) header numbers) count (bufferAfter f (y ∷ ys) header) out
+hear-part u f count header numbers out y ys room ok r = record {
+  file-is = rw (buffer-length f (y ∷ ys) header, r .file-is) (part-form header numbers (u .items) (u .have) y ys (r .whole) room);
+  count-is = r .count-is;
+  out-is = r .out-is;
+  whole = r .whole;
+  some = bytes-append (u .have) (y ∷ ys) (r .some) ok;
+  kept = λ n h. keep n (rw (buffer-length f (y ∷ ys) header) at h);
+}
+  where
+    keep : u .items ≡ [] → length (u .have ++ (y ∷ ys)) ≤ length header → take (length (u .have ++ (y ∷ ys))) (bufferAfter f (y ∷ ys) header) ≡ u .have ++ (y ∷ ys)
+    keep n h =
+        let l : length (u .have ++ (y ∷ ys)) ≡ length (u .have) + length (y ∷ ys) = length-append (u .have) (y ∷ ys) in
+        rw (r .file-is, n) (buffer-kept header (u .have) (y ∷ ys) h (r .kept n (omega arith)))
+
+-- the end of an item, after some of its bytes
+hear-end : (u : Sum) (f : File) (count : ℕ) (header out : List ℕ) (x : ℕ) (xs : List ℕ) → u .have ≡ x ∷ xs → Rel u f count header out
+    → Rel (tell (length header) u close) (itemEnd f header) count header out
+hear-end u f count header out x xs e r = record {
+  file-is = rw (r .file-is, e) (end-form header (u .items) x xs (λ n h. rw e at (r .kept n (rw e h))));
+  count-is = r .count-is;
+  out-is = r .out-is;
+  whole = items-append (u .items) (u .have ∷ []) (r .whole) (r .some, tt);
+  some = tt;
+  kept = λ n h. refl;
+}
+
+hear-whole : (u : Sum) (f : File) (count : ℕ) (header : List ℕ) (numbers : List ℤ) (out : List ℕ) (y : ℕ) (ys : List ℕ) → length (y ∷ ys) ≤ length numbers / 2 → Bytes (y ∷ ys)
+    → Rel u f count header out
+    → Rel (tell (length header) (with-more u (y ∷ ys)) close) (itemEnd (partOf f (y ∷ ys) header numbers) (bufferAfter f (y ∷ ys) header)) count (bufferAfter f (y ∷ ys) header) out
+hear-whole u f count header numbers out y ys room ok r = go (u .have) refl
+  where
+    end : (x : ℕ) (xs : List ℕ) → u .have ++ (y ∷ ys) ≡ x ∷ xs
+        → Rel (tell (length header) (with-more u (y ∷ ys)) close) (itemEnd (partOf f (y ∷ ys) header numbers) (bufferAfter f (y ∷ ys) header)) count (bufferAfter f (y ∷ ys) header) out
+    end x xs e = hear-end (with-more u (y ∷ ys)) (partOf f (y ∷ ys) header numbers) count (bufferAfter f (y ∷ ys) header) out x xs e (hear-part u f count header numbers out y ys room ok r)
+
+    go : (l : List ℕ) → u .have ≡ l
+        → Rel (tell (length header) (with-more u (y ∷ ys)) close) (itemEnd (partOf f (y ∷ ys) header numbers) (bufferAfter f (y ∷ ys) header)) count (bufferAfter f (y ∷ ys) header) out
+    go [] e = end y ys (ap (λ (l : List ℕ). l ++ (y ∷ ys)) e)
+    go (x ∷ xs) e = end x (xs ++ (y ∷ ys)) (ap (λ (l : List ℕ). l ++ (y ∷ ys)) e)
+
+-- with room in the line's buffer, and the lengths of the other two
+pub record Good (cap most : ℕ) (u : Sum) (f : File) (count : ℕ) (header : List ℕ) (numbers : List ℤ) (line out : List ℕ) : Type 0 where
+  pub rel : Rel u f count header out
+  pub room : 128 ≤ length line
+  pub size : length header ≡ cap
+  pub half : most ≡ length numbers / 2
+
+over-room : (text line : List ℕ) → 128 ≤ length line → 128 ≤ length (text ++ drop (length text) line)
+over-room text line h = simp (length-append, length-drop) (omega arith)
+
+hear-mark : (most : ℕ) (u : Sum) (f : File) (count : ℕ) (header : List ℕ) (numbers : List ℤ) (line out : List ℕ) → Good (length header) most u f count header numbers line out
+    → Good (length header) most (tell (length header) u mark) ((marked (saidOf f) count line) .file) ((marked (saidOf f) count line) .count) header numbers (markedLine (saidOf f) count line)
+    (out ++ take ((marked (saidOf f) count line) .length) (markedLine (saidOf f) count line))
+unfolding pick
+hear-mark most u f count header numbers line out g =
+    rw (← g .rel .file-is, ← g .rel .count-is, ← g .rel .out-is) (go (saidOf f))
+  where
+    go : (s : Said)
+        → Good (length header) most (record { items = []; have = []; count = countBy s count; out = out ++ textBy s count })
+        ((marked s count line) .file) ((marked s count line) .count) header numbers (markedLine s count line)
+        (out ++ take ((marked s count line) .length) (markedLine s count line))
+    go Nothing = record {
+      rel = record { file-is = refl; count-is = refl; out-is = refl; whole = tt; some = tt; kept = λ n h. refl };
+      room = g .room;
+      size = refl;
+      half = g .half;
+    }
+    go (Line o) = rw (le-ltb (length line) 128 (g .room))
+        (record {
+          rel = record { file-is = refl; count-is = refl; out-is = ap (λ (l : List ℕ). out ++ l) (take-append-seam (lineOf (nextNumber count) o) (drop (length (lineOf (nextNumber count) o)) line)); whole = tt; some = tt; kept = λ n h. refl };
+          room = over-room (lineOf (nextNumber count) o) line (g .room);
+          size = refl;
+          half = g .half;
+        })
+
+pub quiet : {u : Sum} {f : File} {count : ℕ} {header : List ℕ} (out : List ℕ) → Rel u f count header out → Rel u f count header (out ++ [])
+quiet {u} {f} {count} {header} out r = rw (append-nil out) r
+
+-- whatever an answer of `next` brings
+pub hear-any : (most : ℕ) (u : Sum) (f : File) (count : ℕ) (header : List ℕ) (numbers : List ℤ) (line out : List ℕ) (m : Met) (p : List ℕ) → 0 < length p → length p ≤ most → Bytes p
+    → Good (length header) most u f count header numbers line out
+    → Good (length header) most (tellAll (length header) u (tells m p)) ((heardOf f count m p header numbers line) .file) ((heardOf f count m p header numbers line) .count)
+    (heardHeader f m p header) (heardNumbers f m p numbers) (heardLine f count m line) (out ++ take ((heardOf f count m p header numbers line) .length) (heardLine f count m line))
+hear-any most u f count header numbers line out Framing p h k ok g = record { rel = quiet out (g .rel); room = g .room; size = refl; half = g .half }
+hear-any most u f count header numbers line out Part [] h k ok g = absurd (omega arith)
+hear-any most u f count header numbers line out Part (y ∷ ys) h k ok g =
+    rw (tell-bytes (length header) u (y ∷ ys))
+    (record {
+      rel = quiet out (hear-part u f count header numbers out y ys (rw (g .half) at k) ok (g .rel));
+      room = g .room;
+      size = buffer-length f (y ∷ ys) header;
+      half = rw (numbers-kept f (y ∷ ys) numbers) (g .half);
+    })
+hear-any most u f count header numbers line out Whole [] h k ok g = absurd (omega arith)
+hear-any most u f count header numbers line out Whole (y ∷ ys) h k ok g =
+    let e : tellAll (length header) u (map byte (y ∷ ys) ++ (close ∷ [])) ≡ tell (length header) (with-more u (y ∷ ys)) close =
+    tell-append (length header) u (map byte (y ∷ ys)) (close ∷ []) ∙ ap (λ (v : Sum). tell (length header) v close) (tell-bytes (length header) u (y ∷ ys)) in
+    rw e
+    (record {
+      rel = quiet out (hear-whole u f count header numbers out y ys (rw (g .half) at k) ok (g .rel));
+      room = g .room;
+      size = buffer-length f (y ∷ ys) header;
+      half = rw (numbers-kept f (y ∷ ys) numbers) (g .half);
+    })
+hear-any most u f count header numbers line out Mark p h k ok g = hear-mark most u f count header numbers line out g

@@ -1,0 +1,9 @@
+pub mod Onward
+pub mod Bytes
+pub mod Reader
+pub mod Places
+pub mod Closes
+pub mod Form
+pub mod Telling
+pub mod Hearing
+pub mod Listed

@@ -1,0 +1,28 @@
+-- `lister::read` meets its contract: the header is accepted, or refused.
+-- Assumes nothing.
+use borrow.Author.Needs.{needs}
+use Rattle.lister.proofs.file.read.Statement.{statement}
+use Rattle.lister.proofs.file.read.Tie as tie
+
+read-header-requires : tie.Need-read-header-requires
+read-header-requires c κs = search needs
+
+enum-known-a : tie.Need-enum-known-a
+enum-known-a c = search needs
+
+enum-known-a-2 : tie.Need-enum-known-a-2
+enum-known-a-2 c = search needs
+
+open-requires : tie.Need-open-requires
+open-requires c κs = search needs
+
+returns : tie.Need-returns
+returns c = rw (← c .before .before .before .read-header .ensures, c .before .a .given .1)
+
+returns-2 : tie.Need-returns-2
+returns-2 c = rw (← c .before .before .before .before .before .read-header .ensures, c .before .before .before .a2 .given .1, c .before .«open» .ensures)
+
+pub read-spec : {M : Type 1} → statement M
+read-spec =
+    tie.close
+    (tie.spec read-header-requires enum-known-a enum-known-a-2 open-requires returns returns-2)
