@@ -74,7 +74,19 @@ impl Group {
         wanted: Result<T, Refusal>,
         input: impl Fn() -> String,
     ) {
-        self.rows[row_of(&wanted)] += 1;
+        self.under(row_of(&wanted), ours, wanted, input);
+    }
+
+    /// Compares two answers, counted under a row: those of a call that may hand
+    /// out something beside its refusal.
+    pub fn under<T: PartialEq + Debug>(
+        &mut self,
+        row: usize,
+        ours: T,
+        wanted: T,
+        input: impl Fn() -> String,
+    ) {
+        self.rows[row] += 1;
         self.differ_unless(ours == wanted, || {
             format!("{}\n    library: {ours:?}\n    reader:  {wanted:?}", input())
         });

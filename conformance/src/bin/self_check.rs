@@ -7,6 +7,9 @@ use conformance::make::headers::{any_code, damaged_header, header, sheet, small_
 use conformance::make::headers::{Plan, Set};
 use conformance::make::images::{any_reel, reel};
 use conformance::make::questions::{any_sheet, any_word, near};
+use conformance::make::records::{
+    large_blocks, long_shot, longest_scans, switched_interval, Record,
+};
 use conformance::make::rng::Rng;
 use conformance::reader::body::{read_body, Body, Cause, Report, Stop};
 use conformance::reader::calls::{answers, uncut, Answer, Call};
@@ -631,6 +634,33 @@ fn refused(answer: &Answer) -> Option<&Refusal> {
 }
 
 /// Every image has one of the three last lines.
+/// The report on a record that has to be sound.
+fn report((block, body): &Record) -> Report {
+    let reading = read_body(block, body).expect("the header is accepted");
+    reading.closing.expect("nothing is wrong with the body")
+}
+
+/// The long records are sound, and are what they are said to be.
+fn check_made_records(checks: &mut Checks) {
+    let mut rng = Rng::new(12);
+    let shot = long_shot(&mut rng, 0x0022, 4);
+    let (scans, last) = (report(&shot).scans, shot.1.blocks[0].len() - 12);
+    checks.equal("scans of 90 s", scans, 45_000);
+    checks.equal("T after 90 s", &shot.1.blocks[0][last + 4..last + 7], &hex("5F8E00")[..]);
+    let switched = switched_interval(&mut rng, 0x0044, 3_000);
+    checks.equal("header of example 6", switched.0.len(), 352);
+    checks.equal("scan type at the end", report(&switched).scan_type, 2);
+    let dynamic = |scan: usize| switched.1.blocks[0][scan * 112 + 3] & 0x10 != 0;
+    checks.equal("the change", [0, 1_499, 1_500, 2_999].map(dynamic), [false, false, true, true]);
+    let large = large_blocks(&mut rng);
+    let lengths: Vec<usize> = large.1.blocks.iter().map(Vec::len).collect();
+    checks.equal("blocks of E9", lengths, vec![261_576; 2]);
+    checks.equal("samples of E9", report(&large).samples, 2 * 692 * 148);
+    let longest = longest_scans(&mut rng, 1);
+    checks.equal("the longest scan", longest.1.blocks[0].len(), 999_999);
+    checks.equal("samples of the longest scan", report(&longest).samples, 999_991);
+}
+
 fn check_made_reels(checks: &mut Checks) {
     let mut rng = Rng::new(11);
     for _ in 0..200 {
@@ -658,6 +688,7 @@ fn main() {
         check_header_values, check_paper_figures, check_paper_lengths, check_paper_skew, check_times,
         check_parts, check_case_l, check_stops, check_closings, check_gapped, check_status,
         check_scan_types, check_calls, check_lists, check_made_reels, check_made_words,
+        check_made_records,
     ];
     fixed.iter().for_each(|check| check(&mut checks));
     check_made_headers(&mut checks, &mut tally);

@@ -70,19 +70,32 @@ fn any_sample_bytes(rng: &mut Rng, count: usize) -> Vec<u8> {
         .collect()
 }
 
-/// The scans of a sound body, one after the other.
-fn any_scans(rng: &mut Rng, plan: &Plan, count: usize) -> Vec<Vec<u8>> {
+/// What is drawn or set of a sound body before its scans are.
+struct Course {
+    /// which scans start a new scan type; as many as there are scans
+    flips: Vec<bool>,
+    /// the first T
+    first: u32,
+    /// the scan from which on TWI is set
+    window: usize,
+}
+
+fn any_course(rng: &mut Rng, plan: &Plan, count: usize) -> Course {
     let flips = any_flips(rng, plan, count);
     let first = any_first_timing(rng, plan);
-    let window = rng.index(count * 2);
-    let step = 16 * u32::from(plan.interval);
+    Course { flips, first, window: rng.index(count * 2) }
+}
+
+/// The scans of a sound body, one after the other.
+fn scans(rng: &mut Rng, plan: &Plan, course: &Course) -> Vec<Vec<u8>> {
+    let step = 16 * u64::from(plan.interval);
     let mut dynamic = false;
-    (0..count)
+    (0..course.flips.len())
         .map(|n| {
-            dynamic ^= flips[n];
-            let timing = (first + n as u32 * step) % (1 << 24);
-            let status = any_status(rng, window, n);
-            let mut scan = start_of_scan(rng, dynamic, status, timing);
+            dynamic ^= course.flips[n];
+            let timing = (u64::from(course.first) + n as u64 * step) % (1 << 24);
+            let status = any_status(rng, course.window, n);
+            let mut scan = start_of_scan(rng, dynamic, status, timing as u32);
             scan.extend(any_sample_bytes(rng, plan.bytes_per_scan() as usize - 8));
             scan
         })
@@ -98,8 +111,17 @@ fn in_blocks(plan: &Plan, scans: &[Vec<u8>]) -> Body {
 /// A sound body of the plan. Meant for small plans.
 pub fn sound_body(rng: &mut Rng, plan: &Plan) -> Body {
     let count = any_scan_count(rng, plan);
-    let scans = any_scans(rng, plan, count);
-    in_blocks(plan, &scans)
+    let course = any_course(rng, plan, count);
+    in_blocks(plan, &scans(rng, plan, &course))
+}
+
+/// A sound body of that many scans whose first T is 0 and whose scan types are
+/// equally long. TWI is set from halfway on, and by draw before.
+pub fn even_body(rng: &mut Rng, plan: &Plan, count: usize) -> Body {
+    let each = count / plan.scan_types.len();
+    let flips = (0..count).map(|n| n > 0 && n % each == 0).collect();
+    let course = Course { flips, first: 0, window: count / 2 };
+    in_blocks(plan, &scans(rng, plan, &course))
 }
 
 /// Changes a bit of one of the eight bytes before the samples of some scan.

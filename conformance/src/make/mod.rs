@@ -5,4 +5,5 @@ pub mod calls;
 pub mod headers;
 pub mod images;
 pub mod questions;
+pub mod records;
 pub mod rng;
