@@ -1,12 +1,12 @@
 -- Numbers of any width: bounds of products and powers, and the difference of two numbers as a signed number.
 -- Assumes nothing.
 use Prim.Native.Nat.{ℕ, zero, suc, _+_, _-_, _*_, _%_, _^_, _≤_, _<_, zero-le}
-use mathlib.Core.Path.{_≡_, refl, sym, _∙_, ap}
+use mathlib.Core.Path.{_≡_, _∙_, ap}
 use mathlib.Core.Bool.{Bool, true, false, cond}
 use native.Mathlib.Nat.{one-mul, add-zero, lt-of-lt-of-le, lt-of-le-of-lt, le-of-lt, mod-eq-of-lt, mul-le-mul-right, mul-lt-mul-of-pos-left}
 use native.Mathlib.Omega.{arith}
 use lib.Dec.{ltb, lit<}
-use lib.IntN.{ℤ, pos, negsuc, negℤ, _-ℤ_, +ℤ-idl}
+use lib.IntN.{pos, negsuc, negℤ, _-ℤ_, +ℤ-idl}
 use lib.Pow.{shl-exact, pow-mono}
 use lib.Signed.{mag}
 use mir.Syntax.{Width}

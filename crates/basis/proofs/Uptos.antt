@@ -1,14 +1,13 @@
--- Laws of the numbers below n, over what is joined; and of a number written in digits.
+-- Laws of the numbers below n, over what is joined.
 -- Assumes nothing.
-use Prim.Native.Nat.{ℕ, zero, suc, _+_, _*_, _≤_, _<_}
-use mathlib.Core.Path.{_≡_, refl}
+use Prim.Native.Nat.{ℕ, zero, suc, _+_, _≤_, _<_}
+use mathlib.Core.Path.{_≡_}
 use mathlib.Core.Logic.{⊎-elim}
-use mathlib.Core.Bool.{Bool, true, false, _&&_, and-false}
+use mathlib.Core.Bool.{Bool, false, _&&_, and-false}
 use native.Mathlib.Nat.{eq-or-lt-of-le}
 use native.Mathlib.Numerals.{add-one}
 use native.Mathlib.Omega.{arith}
-use Rattle.basis.specs.Upto.{upto, allUpto, sumUpto}
-use Rattle.basis.specs.Digits.{written}
+use Rattle.basis.specs.Upto.{upto, allUpto}
 
 pub upto-more : {A : Type 0} (join : A → A → A) (none : A) (f : ℕ → A) (i : ℕ) → upto join none f (i + 1) ≡ join (upto join none f i) (f i)
 unfolding upto
@@ -20,7 +19,3 @@ all-fails f i zero h q = absurd (omega arith)
 all-fails f i (suc n) h q =
     ⊎-elim (λ (e : i ≡ n). rw (← e, q, and-false)) (λ (l : i < n). rw (all-fails f i n l q))
     (eq-or-lt-of-le (let k : i ≤ n = omega arith in k))
-
-pub written-more : (base : ℕ) (digit : ℕ → ℕ) (a i : ℕ) → written base digit a (i + 1) ≡ written base digit a i * base + digit (a + i)
-unfolding written
-written-more base digit a i = rw add-one

@@ -1,14 +1,20 @@
 -- The three demands hold.
 -- Assumes nothing.
-use Prim.Native.Nat.{ℕ, _/_, _<_}
-use mathlib.Core.Path.{_≡_, refl}
+use Prim.Native.Nat.{ℕ, _+_, _-_, _/_, _^_, _<_}
+use mathlib.Core.Path.{_≡_, refl, subst}
 use mathlib.Core.Bool.{true, false, not}
 use mathlib.Core.List.{List, [], _∷_, append-nil}
+use native.Mathlib.Nat.{zero-add}
 use native.Mathlib.Omega.{arith}
 use lib.IntN.{ℤ}
 use lib.ListN.{length}
 use borrow.Author.Tests.{lt-ltb, ne-eqb, eq-eqb}
 use Rattle.basis.specs.Choice.{pick}
+use Rattle.basis.proofs.FieldLaws.{last-back, fraction-back, exponent-back, sign-back, rejoined}
+use Rattle.values.proofs.Laws.{same-refl, same-sym, same-trans, same-shift, same-tested, less-irrefl, less-trans, same-less, less-level, total}
+use Rattle.codes.specs.declared.Row.{Row}
+use Rattle.codes.specs.Codes.{Fit}
+use Rattle.codes.proofs.Rows.{fit}
 use Rattle.refusals.specs.declared.Refusal.the-variants.{Index, Room}
 use Rattle.refusals.specs.declared.Fault.{Fault}
 use Rattle.refusals.specs.declared.Fault.the-variants.{Clear, At}
@@ -20,7 +26,14 @@ use Rattle.header.specs.declared.Described.the-variants as described
 use Rattle.header.specs.Faults.{headerFault}
 use Rattle.header.specs.Answers.{headerOf, headerAnswer, answerAfter, isSet, descriptorAnswer, describedAfter}
 use Rattle.layout.proofs.Inverses.{inverse}
+use Rattle.words.specs.Words.{spareOf}
 use Rattle.words.proofs.Parts.{taken}
+use Rattle.header.proofs.Accepted.{descriptor-inside, subscans-small}
+use Rattle.layout.proofs.WordLaws.{words-apart, word-inside, words-fill}
+use Rattle.parts.proofs.Fits.{byte-of-part}
+use Rattle.body.proofs.Cuts.{cut-state, cut-wrote}
+use Rattle.body.proofs.Opens.{open-unfit}
+use Rattle.body.proofs.Stops.{stop-said}
 use Rattle.parts.specs.declared.Timed.the-variants.{Time}
 use Rattle.parts.specs.Times.{timeFault, timeAnswer, timeAfter}
 use Rattle.rules.proofs.Laws.{stop-first}
@@ -31,8 +44,8 @@ use Rattle.body.specs.Calls as calls
 use Rattle.body.specs.Ends.{blockEnd, ended, close, finish, refused}
 use Rattle.agree.specs.Calls.{Call, put, end, readOn}
 use Rattle.agree.proofs.Agreement.{agreement, turned-away}
-use Rattle.demands.specs.Demand1.{SameStop, Unmoved, Demand1, stands}
-use Rattle.demands.specs.Demand2.{Demand2}
+use Rattle.demands.specs.Demand1.{Unmoved, Demand1, stands}
+use Rattle.demands.specs.Demand2.{OwnBytes, Compared, Cut, Demand2}
 use Rattle.demands.specs.Demand3.{Demand3}
 use Rattle.demands.proofs.Uniques.{unique}
 use Rattle.demands.proofs.Figures.{all-figures}
@@ -74,6 +87,8 @@ demand1 = record {
   stopped = λ s f n. record { portions = portions s f n; written = nothing s f n; blockEnds = ends s f n; closes = closes s f n; forever = forever s f n };
   unfit = unmoved;
   unopened = turned-away;
+  shut = open-unfit;
+  told = stop-said;
   room = no-room;
 }
 
@@ -91,6 +106,48 @@ time-given : (f : Fault) (a x : ℕ) → timeAfter f a ≡ Time x → x ≡ a
 time-given Clear a x e = cc
 time-given (At r) a x e = let z : _≡_ {A = ℕ} 0 1 = cc in absurd (omega arith)
 
+-- a row's own widths add up to its word's
+widths : (r : Row) → Fit r → r .width - r .apart ≡ 1 + (spareOf r + r .fraction + (r .exponent - r .apart))
+widths r f = omega (arith, f .whole, f .inside)
+
+place-of-sign : (r : Row) → Fit r → r .width - r .apart - 1 ≡ spareOf r + r .fraction + (r .exponent - r .apart)
+place-of-sign r f = omega (arith, f .whole, f .inside)
+
+cut-in : (r : Row) → Fit r → Cut r
+cut-in r f =
+    record {
+      cut = λ word h. rw (place-of-sign r f, zero-add) (rejoined (r .exponent - r .apart) (r .fraction) (spareOf r) word (subst (λ (n : ℕ). word < 2 ^ n) (widths r f) h));
+      joined = λ s e q last hs he hq hl. (
+        rw (place-of-sign r f) (sign-back _ _ _ s e q last hs he hq hl),
+        rw zero-add (exponent-back _ _ _ s e q last hs he hq hl),
+        fraction-back _ _ _ s e q last hs he hq hl,
+        last-back _ _ _ s e q last hs he hq hl,
+      );
+    }
+
+own-bytes : (b : List ℕ) → headerFault b ≡ Clear → OwnBytes b
+own-bytes b e =
+    record {
+      apart = words-apart b e;
+      inside = word-inside b e;
+      fill = words-fill b e;
+      descriptors = λ t s h g. (descriptor-inside b e t s h g, subscans-small b e t s h g);
+    }
+
+compared : Compared
+compared = record {
+  refl = same-refl;
+  sym = same-sym;
+  trans = same-trans;
+  shift = same-shift;
+  tested = same-tested;
+  irrefl = less-irrefl;
+  less-trans = less-trans;
+  same-less = same-less;
+  total = total;
+  level = less-level;
+}
+
 pub demand2 : Demand2
 unfolding headerAnswer descriptorAnswer timeAnswer
 demand2 = record {
@@ -99,10 +156,18 @@ demand2 = record {
   sets = λ b t s d e. set-given (orElse (headerFault b) (when (not (isSet b t s)) Index)) _ d e;
   places = inverse;
   samples = λ code c word r e low hc hw. taken code r e c word low hc hw;
+  cut = λ code r e. cut-in r (fit code r e);
+  own = own-bytes;
+  values = compared;
+  skews = byte-of-part;
   times = λ b sheet t k T time e. time-given (timeFault b sheet t k T) _ time e;
   starred = all-figures;
 }
 
 -- ---- 3
 pub demand3 : Demand3
-demand3 = record { agrees = agreement; first = stop-first }
+demand3 = record {
+  agrees = agreement;
+  cuts = λ s a b f m n k ha hb h. (cut-state s a b f m n k ha hb h, cut-wrote s a b f m n k ha hb h);
+  first = stop-first;
+}

@@ -4,17 +4,21 @@
 use Prim.Native.Nat.{ℕ, _/_, _<_}
 use mathlib.Core.Path.{_≡_}
 use mathlib.Core.Bool.{true, false}
-use mathlib.Core.List.{List, []}
+use mathlib.Core.List.{List, [], _∷_}
 use lib.IntN.{ℤ}
 use lib.ListN.{length}
 use Rattle.refusals.specs.declared.Refusal.{Refusal}
 use Rattle.refusals.specs.declared.Refusal.the-variants as refusal
 use Rattle.scan.specs.declared.State.{State}
-use Rattle.scan.specs.Fit.{fitb}
+use Rattle.refusals.specs.Table.{said}
+use Rattle.header.specs.declared.Answer.the-variants.{Refused}
+use Rattle.header.specs.Answers.{headerAnswer}
+use Rattle.scan.specs.Fit.{stopb, fitb}
 use Rattle.body.specs.declared.Gave.{Gave}
 use Rattle.body.specs.declared.Answer.the-variants.{Stopped}
 use Rattle.body.specs.Calls as calls
 use Rattle.body.specs.Ends as ends
+use Rattle.body.specs.Open.{opened}
 use Rattle.agree.specs.Calls.{Call, readOn}
 use Rattle.agree.specs.Agreement.{TurnedAway}
 use Rattle.demands.specs.Unique.{Unique}
@@ -46,5 +50,8 @@ pub record Demand1 : Type 0 where
   -- an unfit state, such as that of a refused opening, is refused by every call
   pub unfit : (s : State) → fitb s ≡ false → Unmoved s
   pub unopened : TurnedAway
+  pub shut : (b : List ℕ) (r : Refusal) → headerAnswer b ≡ Refused r → fitb (opened b .state) ≡ false
+  -- a stop that a fit state keeps is told by its row's number, with its place
+  pub told : (n place : ℕ) → stopb n ≡ true → (n ≡ 0 → ⊥) → said (calls.stopOf n place) ≡ record { number = n; values = place ∷ [] }
   -- a portion that the output has no room for leaves no trace
   pub room : (s : State) (bs : List ℕ) (room : ℕ) → fitb s ≡ true → s .stop ≡ 0 → room / 2 < length bs → (calls.portion s bs room ≡ calls.unchanged s refusal.Room) × (calls.written s bs room ≡ [])

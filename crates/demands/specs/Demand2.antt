@@ -1,27 +1,74 @@
 -- The second demand: fields, places, samples and times are the paper's, as the description reads it. What each is stands in the specs
 -- of general, sets, words, layout and parts; here stand that accepted headers and words of a code are given it, and not vacuously.
 -- Assumes nothing.
-use Prim.Native.Nat.{ℕ, _-_, _^_, _<_}
+use Prim.Native.Nat.{ℕ, _+_, _-_, _^_, _≤_, _<_}
 use mathlib.Core.Path.{_≡_}
+use mathlib.Core.Logic.{_⊎_}
 use mathlib.Core.List.{List}
+use lib.Dec.{T}
+use lib.IntN.{ℤ, pos, _+ℤ_}
+use lib.ListN.{length, getD}
+use lib.Signed.{ltZ}
+use Rattle.basis.specs.Fields.{joined}
+use Rattle.values.specs.Values.{Scaled, scaled, times, Same, Less, lessTest, sameTest}
 use Rattle.refusals.specs.declared.Fault.the-variants.{Clear}
 use Rattle.codes.specs.declared.Row.{Row}
 use Rattle.codes.specs.declared.Found.the-variants.{At}
-use Rattle.codes.specs.Codes.{rowOf}
-use Rattle.words.specs.Words.{sampleIn, wordOf}
+use Rattle.codes.specs.Codes.{rowOf, perOf, leadOf, wordBytesOf}
+use Rattle.words.specs.Words.{spareOf, signIn, exponentIn, fractionIn, lastIn, sampleIn, wordOf}
 use Rattle.sets.specs.declared.ChannelSet.{ChannelSet}
 use Rattle.sets.specs.ChannelSets.{channelSetOf}
-use Rattle.general.specs.General.{intervalOf}
+use Rattle.sets.specs.Descriptors.{placeOf}
+use Rattle.sets.specs.Samples.{subscansOf, samplesOf}
+use Rattle.general.specs.General.{codeOf, bytesPerScan, intervalOf, scanTypes, channelSets}
 use Rattle.header.specs.declared.Header.{Header}
 use Rattle.header.specs.declared.Answer.the-variants.{Accepted}
 use Rattle.header.specs.declared.Described.the-variants.{Set}
 use Rattle.header.specs.Faults.{headerFault}
 use Rattle.header.specs.Answers.{headerOf, headerAnswer, descriptorAnswer}
 use Rattle.layout.specs.Inverse.{Inverse}
+use Rattle.layout.specs.Places.{wordPlace}
 use Rattle.parts.specs.declared.Timed.the-variants.{Time}
-use Rattle.parts.specs.Skews.{skewByte}
+use Rattle.parts.specs.Slices.{slice}
+use Rattle.parts.specs.Skews.{skewByte, skewOf}
 use Rattle.parts.specs.Times.{timeBy, timeAnswer}
 use Rattle.demands.specs.Figures.{All, figures}
+
+-- the place in its scan of sample k's word, by the code's row
+abbrev wordAt : List ℕ → ℕ → ℕ
+wordAt b = wordPlace (perOf (codeOf b)) (leadOf (codeOf b)) (wordBytesOf (codeOf b))
+
+-- a word joined of S, c, Q and the bits not used, as a row has them; and that a word has them
+abbrev ofFields : Row → ℕ → ℕ → ℕ → ℕ → ℕ
+ofFields r s e q last = joined (r .exponent - r .apart) (r .fraction) (spareOf r) s e q last
+
+abbrev Has : Row → ℕ → ℕ → ℕ → ℕ → ℕ → Type 0
+Has r word s e q last = (signIn r word ≡ s) × (exponentIn r 0 word ≡ e) × (fractionIn r word ≡ q) × (lastIn r word ≡ last)
+
+-- the word of sample k lies at its own bytes of the scan, one after another and to the scan's end; so do descriptors and skew bytes in the block
+pub record OwnBytes (b : List ℕ) : Type 0 where
+  pub apart : (j k : ℕ) → j < k → wordAt b j + wordBytesOf (codeOf b) ≤ wordAt b k
+  pub inside : (t : ℕ) → t < scanTypes b → (k : ℕ) → k < samplesOf b t → wordAt b k + wordBytesOf (codeOf b) ≤ bytesPerScan b
+  pub fill : (t : ℕ) → t < scanTypes b → 0 < samplesOf b t → wordAt b (samplesOf b t - 1) + wordBytesOf (codeOf b) ≡ bytesPerScan b
+  pub descriptors : (t s : ℕ) → t < scanTypes b → s < channelSets b → (placeOf b t s + 32 ≤ length b) × (subscansOf b t s ≤ 512)
+
+-- "Values are compared in whole numbers": equality is one, the order is one, and a shift keeps the value
+pub record Compared : Type 0 where
+  pub refl : (a : Scaled) → Same a a
+  pub sym : {a b : Scaled} → Same a b → Same b a
+  pub trans : {a b c : Scaled} → Same a b → Same b c → Same a c
+  pub shift : (m x : ℤ) (d : ℕ) → Same (scaled (times m d) x) (scaled m (x +ℤ pos d))
+  pub tested : {a b : Scaled} → Same a b → T (sameTest a b)
+  pub irrefl : {a b : Scaled} → Same a b → Less a b → ⊥
+  pub less-trans : {a b c : Scaled} → Less a b → Less b c → Less a c
+  pub same-less : {a b c : Scaled} → Same a b → Less b c → Less a c
+  pub total : (a b : Scaled) → Less a b ⊎ (Same a b ⊎ Less b a)
+  pub level : (m n x : ℤ) → lessTest (scaled m x) (scaled n x) ≡ ltZ m n
+
+-- a row's word is its S, c, Q and the bits not used, and nothing else; and whatever these are, they make a word that has them
+pub record Cut (r : Row) : Type 0 where
+  pub cut : (word : ℕ) → word < 2 ^ (r .width - r .apart) → ofFields r (signIn r word) (exponentIn r 0 word) (fractionIn r word) (lastIn r word) ≡ word
+  pub joined : (s e q last : ℕ) → s < 2 → e < 2 ^ (r .exponent - r .apart) → q < 2 ^ r .fraction → last < 2 ^ spareOf r → Has r (ofFields r s e q last) s e q last
 
 pub record Demand2 : Type 0 where
   -- a header is accepted exactly where it breaks no rule, and then has the page's fields
@@ -33,6 +80,12 @@ pub record Demand2 : Type 0 where
   pub places : (b : List ℕ) → Inverse b
   -- every word of a multiplexed code, no wider than the code's, is the sample that its row's columns give
   pub samples : (code c word : ℕ) (r : Row) → rowOf code ≡ At r → r .code < 0x8000 → c < 2 ^ r .apart → word < 2 ^ (r .width - r .apart) → wordOf code c word ≡ sampleIn r c word
+  pub cut : (code : ℕ) (r : Row) → rowOf code ≡ At r → Cut r
+  -- each at its own place in the scan
+  pub own : (b : List ℕ) → headerFault b ≡ Clear → OwnBytes b
+  pub values : Compared
+  -- sample k's skew byte is byte k of the part that is handed out
+  pub skews : (b sheet : List ℕ) (p q : ℕ × ℕ) (t k : ℕ) → k < samplesOf b t → getD (skewOf (slice p b) (slice q sheet) t .bytes) k 0 ≡ skewByte b sheet t k
   -- a time that is given is 16 T + SS x I
   pub times : (b sheet : List ℕ) (t k T time : ℕ) → timeAnswer b sheet t k T ≡ Time time → time ≡ timeBy T (skewByte b sheet (t - 1) k) (intervalOf b)
   -- the starred figures: among them a header that is accepted, and samples that have their places

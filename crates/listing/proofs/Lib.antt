@@ -1,4 +1,3 @@
 pub mod Pieces
 pub mod Decimal
 pub mod Lent
-pub mod Figures

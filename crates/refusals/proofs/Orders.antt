@@ -1,7 +1,7 @@
 -- Laws of rules looked at in order: for a loop that leaves at the first broken one.
 -- Assumes nothing.
 use Prim.Native.Nat.{ℕ, zero, suc, _+_, _≤_, _<_}
-use mathlib.Core.Path.{_≡_, refl}
+use mathlib.Core.Path.{_≡_}
 use mathlib.Core.Logic.{⊎-elim}
 use native.Mathlib.Nat.{eq-or-lt-of-le}
 use native.Mathlib.Numerals.{add-one}
@@ -10,7 +10,7 @@ use Rattle.basis.specs.Upto.{upto}
 use Rattle.refusals.specs.declared.Refusal.{Refusal}
 use Rattle.refusals.specs.declared.Fault.{Fault}
 use Rattle.refusals.specs.declared.Fault.the-variants.{Clear, At}
-use Rattle.refusals.specs.Order.{orElse, firstUpto}
+use Rattle.refusals.specs.Order.{firstUpto}
 
 pub first-more : (f : ℕ → Fault) (i : ℕ) → firstUpto f i ≡ Clear → f i ≡ Clear → firstUpto f (i + 1) ≡ Clear
 unfolding upto

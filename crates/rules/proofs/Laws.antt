@@ -12,15 +12,11 @@ use Rattle.refusals.specs.declared.Fault.the-variants.{Clear, At}
 use Rattle.refusals.specs.Order.{when, orElse}
 use Rattle.rules.specs.Tape.{Body, byteAt}
 use Rattle.rules.specs.First.{Stops, atByte, atEnd}
-use Rattle.rules.specs.Scans.{Shape, nextTiming}
+use Rattle.rules.specs.Scans.{Shape}
 use Rattle.rules.specs.Faults.{byteFault, endFault}
 use Rattle.rules.specs.Outcome.{placeOf, stopOf}
 use Rattle.rules.proofs.Uptos.{clear-at, at-either}
 use Rattle.rules.proofs.First.{first-fault}
-
--- "I 128: after T FFF800 comes 000000"
-pub timing-returns : nextTiming 128 0xFFF800 ≡ 0
-timing-returns = refl
 
 -- the refusals that stop a body at place p
 pub data Halts (p : ℕ) : Refusal → Type 0 where

@@ -4,4 +4,3 @@ pub mod First
 pub mod Machine
 pub mod Counts
 pub mod Laws
-pub mod CaseL
