@@ -1,3 +1,4 @@
 pub mod Uniques
+pub mod Helds
 pub mod Figures
 pub mod Demands

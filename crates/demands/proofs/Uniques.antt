@@ -71,6 +71,7 @@ unique = record {
   portion-content = λ κ a z z′ e e′ p q. one-answer (p .1) (q .1);
   block-end = λ κ a z z′ e e′. one-answer;
   body-close = λ κ a z z′ e e′. one-answer;
+  place-in = λ κ a z z′ e e′. one-answer;
   framing-close = λ κ a z z′ e e′. one-answer;
   framing-next = λ κ a z z′ e e′. one-answer;
   record-line = λ κ a z z′ e e′. one-within;

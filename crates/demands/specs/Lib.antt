@@ -1,5 +1,6 @@
 pub mod One
 pub mod Unique
+pub mod Held
 pub mod Figures
 pub mod Demand1
 pub mod Demand2

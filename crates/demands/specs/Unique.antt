@@ -60,6 +60,7 @@ use Rattle.body.proofs.open.Reads as body-open
 use Rattle.body.proofs.portion.Reads as body-portion
 use Rattle.body.proofs.block_end.Reads as body-block-end
 use Rattle.body.proofs.close.Reads as body-close
+use Rattle.view.proofs.place_in.Reads as view-place-in
 use Rattle.framing.proofs.close.Reads as framing-close
 use Rattle.framing.proofs.next.Reads as framing-next
 use Rattle.listing.proofs.record_line.Reads as listing-record-line
@@ -151,6 +152,7 @@ pub record Unique : Type 0 where
   pub portion-content : OneContent body-portion.Post (λ κ e. e .1 .1 .0 .now)
   pub block-end : OneAnswer body-block-end.Post
   pub body-close : OneAnswer body-close.Post
+  pub place-in : OneAnswer view-place-in.Post
   pub framing-close : OneAnswer framing-close.Post
   pub framing-next : OneAnswer framing-next.Post
   pub record-line : OneAnswer listing-record-line.Post

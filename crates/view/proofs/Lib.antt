@@ -1,0 +1,3 @@
+pub mod Apart
+pub mod Ask
+pub mod Walks
