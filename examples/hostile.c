@@ -1,0 +1,306 @@
+/*
+ * A hostile caller: forged states, lengths of nothing, output that is too short, questions about what is not there, blocks cut at
+ * every length. Each call has to name its refusal, to leave the state as it was handed in and to write nothing.
+ */
+#define _DEFAULT_SOURCE /* MAP_ANONYMOUS */
+#include "segd.h"
+
+#include "check.h"
+#include <string.h>
+#include <sys/mman.h>
+#include <unistd.h>
+
+enum { ROOM = 64, UNTOUCHED = 0x5AA55AA5 };
+
+/* Two scans of case L. */
+static const uint8_t body[24] = {0xFF, 0xFF, 0xFF, 0x01, 0, 0, 0, 0, 0x18, 0x97, 0xFF, 0x00,
+                                 0xFF, 0xFF, 0xFF, 0x01, 0, 2, 0, 0, 0x18, 0x97, 0x00, 0x00};
+static int32_t out[ROOM];
+
+static SegdState fresh(void)
+{
+    return segd_open(case_l, sizeof case_l).state;
+}
+
+static SegdGave portion(SegdState state, size_t length, size_t room)
+{
+    for (size_t i = 0; i < ROOM; i++)
+        out[i] = UNTOUCHED;
+    return segd_portion(state, body, length, out, room);
+}
+
+/* Whether nothing was written past so many samples. */
+static int untouched_past(uint64_t samples)
+{
+    for (size_t i = 2 * (size_t)samples; i < ROOM; i++)
+        if (out[i] != UNTOUCHED)
+            return 0;
+    return 1;
+}
+
+static int same_shape(const SegdShape *a, const SegdShape *b)
+{
+    return a->code == b->code && a->scan == b->scan && a->advance == b->advance && a->types == b->types && a->block == b->block;
+}
+
+static int same_track(const SegdTrack *a, const SegdTrack *b)
+{
+    return a->timing == b->timing && a->seen == b->seen && a->itb == b->itb && a->twi == b->twi && a->window == b->window;
+}
+
+static int same_state(SegdState a, SegdState b)
+{
+    return same_shape(&a.shape, &b.shape) && same_track(&a.track, &b.track) && a.place == b.place && a.ends == b.ends && a.off == b.off &&
+           a.held == b.held && a.exponents == b.exponents && a.stop == b.stop && a.stopat == b.stopat;
+}
+
+static int is_refusal(SegdTold told, uint32_t number, uint32_t first)
+{
+    return told.number == number && told.first == first && told.second == 0;
+}
+
+static int no_report(SegdClosing closing)
+{
+    return closing.scans == 0 && closing.off == 0 && closing.samples == 0 && closing.last_type == 0 && closing.itb_known == 0 &&
+           closing.itb == 0 && closing.window_known == 0 && closing.window == 0;
+}
+
+/* Whether a portion or a block end answered so, wrote nothing and gave the state back. */
+static int answered(SegdGave gave, SegdState state, uint32_t outcome, uint32_t number, uint32_t first)
+{
+    return gave.outcome == outcome && is_refusal(gave.refusal, number, first) && gave.samples == 0 && same_state(gave.state, state) &&
+           untouched_past(0);
+}
+
+/* Whether every call on a state answers so. */
+static int all_answer(SegdState state, uint32_t outcome, uint32_t number, uint32_t first)
+{
+    SegdClosing closing = segd_close(state);
+
+    return answered(portion(state, sizeof body, ROOM), state, outcome, number, first) &&
+           answered(portion(state, sizeof body, 1), state, outcome, number, first) &&
+           answered(portion(state, 0, 0), state, outcome, number, first) &&
+           answered(segd_block_end(state), state, outcome, number, first) && is_refusal(closing.refusal, number, first) &&
+           no_report(closing);
+}
+
+static int refused_as_unfit(SegdState state)
+{
+    return all_answer(state, SEGD_REFUSED, SEGD_STATE, 0);
+}
+
+static void try_forged_whole(void)
+{
+    SegdState state;
+
+    memset(&state, 0xFF, sizeof state);
+    HOLDS(refused_as_unfit(state));
+    memset(&state, 0, sizeof state);
+    HOLDS(refused_as_unfit(state));
+    SegdOpened unopened = segd_open(case_l, 31);
+    HOLDS(is_refusal(unopened.refusal, SEGD_SHORT, 0));
+    HOLDS(same_state(unopened.state, state));
+}
+
+/* One number of a sound state, a step past what it may be. */
+static void try_forged_number(void)
+{
+    static const struct {
+        size_t field;
+        uint32_t value;
+    } forged[] = {
+        {offsetof(SegdState, shape.scan), 7},           {offsetof(SegdState, shape.scan), 1000000},
+        {offsetof(SegdState, shape.advance), 1},        {offsetof(SegdState, shape.advance), 524288 + 256},
+        {offsetof(SegdState, shape.types), 0},          {offsetof(SegdState, shape.types), 100},
+        {offsetof(SegdState, shape.block), 8355841},    {offsetof(SegdState, ends), 25},
+        {offsetof(SegdState, off), 25},                 {offsetof(SegdState, stopat), 25},
+        {offsetof(SegdState, track.seen), 2},           {offsetof(SegdState, track.itb), 2},
+        {offsetof(SegdState, track.twi), 2},            {offsetof(SegdState, exponents), 65536},
+        {offsetof(SegdState, stop), 1},                 {offsetof(SegdState, stop), 13},
+        {offsetof(SegdState, stop), 19},                {offsetof(SegdState, stop), UINT32_MAX},
+    };
+
+    for (size_t i = 0; i < sizeof forged / sizeof forged[0]; i++) {
+        SegdState state = portion(fresh(), sizeof body, ROOM).state;
+        memcpy((char *)&state + forged[i].field, &forged[i].value, sizeof forged[i].value);
+        HOLDS(refused_as_unfit(state));
+    }
+}
+
+static void try_forged_code(void)
+{
+    static const uint16_t codes[] = {0x0000, 0x0023, 0x2200, 0x8022, 0xFFFF};
+    SegdState state = fresh();
+
+    for (size_t i = 0; i < sizeof codes / sizeof codes[0]; i++) {
+        state.shape.code = codes[i];
+        HOLDS(refused_as_unfit(state));
+    }
+    state.shape.code = 0x0048; /* scans of 12 bytes hold one whole word of four */
+    HOLDS(portion(state, 0, 0).outcome == SEGD_GOING_ON);
+    state.shape.scan = 13;
+    HOLDS(refused_as_unfit(state));
+}
+
+/* A stop stays what its numbers say, whatever else is changed about it. */
+static void try_forged_stop(void)
+{
+    SegdState state = segd_block_end(fresh()).state;
+
+    HOLDS(all_answer(state, SEGD_STOPPED, SEGD_BLOCK, 0));
+    state.place = 24;
+    state.stopat = 5;
+    for (uint32_t stop = SEGD_LONG; stop <= SEGD_PHASE; stop++) {
+        state.stop = stop;
+        HOLDS(all_answer(state, SEGD_STOPPED, stop, 5));
+    }
+    state.stopat = 25;
+    HOLDS(refused_as_unfit(state));
+}
+
+/* The last place of a body: no reel of a handy size comes there, a forged state does. */
+static void try_longest(void)
+{
+    SegdState state = fresh();
+
+    state.place = UINT32_MAX;
+    SegdGave gave = portion(state, sizeof body, ROOM);
+    HOLDS(gave.outcome == SEGD_STOPPED && is_refusal(gave.refusal, SEGD_LONG, UINT32_MAX));
+    HOLDS(gave.samples == 0 && untouched_past(0));
+    HOLDS(all_answer(gave.state, SEGD_STOPPED, SEGD_LONG, UINT32_MAX));
+}
+
+/* Numbers from a seed, the same in every run. */
+static uint32_t any(void)
+{
+    static uint32_t seed = 2463534242u;
+
+    seed ^= seed << 13;
+    seed ^= seed >> 17;
+    seed ^= seed << 5;
+    return seed;
+}
+
+/* A state made up inside the limits: what it answers is of no use, but it answers and keeps to its room. */
+static SegdState made_up(void)
+{
+    static const uint16_t codes[] = {0x0015, 0x0022, 0x0024, 0x0042, 0x0044, 0x0048};
+    SegdState state = fresh();
+
+    state.shape.code = codes[any() % 6];
+    state.shape.scan = 8 + 20 * (any() % 3);
+    state.shape.types = 1 + any() % 99;
+    state.shape.block = any() % 4;
+    state.place = any() % 2 ? any() : any() % 64;
+    state.ends = any() % 2 ? state.place : 0;
+    state.off = state.place;
+    state.track.timing = any();
+    state.track.seen = any() % (state.shape.types + 1);
+    state.held = any();
+    state.exponents = any() % 65536;
+    return state;
+}
+
+static void try_made_up(void)
+{
+    int kept_to_room = 1, wrote = 0;
+
+    for (int round = 0; round < 20000; round++) {
+        SegdGave gave = portion(made_up(), sizeof body, 2 * sizeof body);
+        kept_to_room = kept_to_room && gave.outcome <= SEGD_STOPPED && gave.samples <= sizeof body && untouched_past(gave.samples);
+        wrote += gave.samples > 0;
+    }
+    HOLDS(kept_to_room);
+    HOLDS(wrote > 0);
+}
+
+static void try_room(void)
+{
+    SegdState state = fresh();
+
+    for (size_t room = 0; room < 2 * sizeof body; room++)
+        HOLDS(answered(portion(state, sizeof body, room), state, SEGD_REFUSED, SEGD_ROOM, 0));
+    HOLDS(answered(portion(state, 0, 0), state, SEGD_GOING_ON, 0, 0));
+    SegdGave gave = portion(state, sizeof body, 2 * sizeof body);
+    HOLDS(gave.outcome == SEGD_GOING_ON && gave.samples == 8 && untouched_past(8));
+}
+
+/* Every question on a block that is refused by the same number, with nothing in its answer. */
+static void try_refused_block(const uint8_t *block, size_t length, uint32_t number)
+{
+    SegdSkew skew = segd_skew(block, length, body, 4, 1);
+    SegdPart external = segd_external(block, length);
+    SegdPlace place = segd_sample_place(block, length, 1, 0);
+
+    HOLDS(is_refusal(segd_open(block, length).refusal, number, 0));
+    HOLDS(is_refusal(segd_read_header(block, length).refusal, number, 0));
+    HOLDS(is_refusal(segd_descriptor(block, length, 1, 1).refusal, number, 0));
+    HOLDS(is_refusal(segd_sample_index(block, length, 1, 1, 1, 0).refusal, number, 0));
+    HOLDS(is_refusal(place.refusal, number, 0) && place.set == 0 && place.channel == 0 && place.subscan == 0);
+    HOLDS(is_refusal(segd_constants(block, length).refusal, number, 0));
+    HOLDS(is_refusal(segd_extended(block, length).refusal, number, 0));
+    HOLDS(is_refusal(external.refusal, number, 0) && external.offset == 0 && external.length == 0);
+    HOLDS(is_refusal(skew.refusal, number, 0) && skew.of_sheet == 0 && skew.offset == 0 && skew.length == 0);
+    HOLDS(is_refusal(segd_skew_at(block, length, body, 4, 1, 0).refusal, number, 0));
+    HOLDS(is_refusal(segd_sample_time(block, length, body, 4, 1, 0, 0).refusal, number, 0));
+}
+
+/* The header block cut at every length, each time against a page that nobody may read. */
+static void try_cut_blocks(void)
+{
+    size_t page = (size_t)sysconf(_SC_PAGESIZE);
+    uint8_t *pages = mmap(NULL, 2 * page, PROT_READ | PROT_WRITE, MAP_PRIVATE | MAP_ANONYMOUS, -1, 0);
+
+    if (pages == MAP_FAILED || mprotect(pages + page, page, PROT_NONE) != 0) {
+        check(0, "there is a page that nobody may read", __FILE__, __LINE__);
+        return;
+    }
+    for (size_t length = 0; length < sizeof case_l; length++) {
+        uint8_t *block = pages + page - length;
+        memcpy(block, case_l, length);
+        try_refused_block(block, length, length < 32 ? SEGD_SHORT : SEGD_LENGTH);
+    }
+    memset(pages, 0xFF, page);
+    try_refused_block(pages, page, SEGD_FORMAT);
+}
+
+/* An accepted header, asked about what it has not. */
+static void try_questions(void)
+{
+    static const uint32_t absent[] = {0, 2, 100, 256, 257, UINT32_MAX};
+    const size_t length = sizeof case_l;
+
+    for (size_t i = 0; i < sizeof absent / sizeof absent[0]; i++) {
+        uint32_t n = absent[i];
+        HOLDS(is_refusal(segd_descriptor(case_l, length, n, 1).refusal, SEGD_INDEX, 0));
+        HOLDS(is_refusal(segd_descriptor(case_l, length, 1, n).refusal, SEGD_INDEX, 0));
+        HOLDS(is_refusal(segd_sample_index(case_l, length, 1, n, 1, 0).refusal, SEGD_INDEX, 0));
+        HOLDS(is_refusal(segd_sample_place(case_l, length, n, 0).refusal, SEGD_INDEX, 0));
+        HOLDS(is_refusal(segd_skew(case_l, length, body, 0, n).refusal, SEGD_INDEX, 0));
+    }
+    HOLDS(is_refusal(segd_sample_index(case_l, length, 1, 1, 5, 0).refusal, SEGD_INDEX, 0));
+    HOLDS(is_refusal(segd_sample_index(case_l, length, 1, 1, 1, 1).refusal, SEGD_INDEX, 0));
+    HOLDS(is_refusal(segd_sample_place(case_l, length, 1, 4).refusal, SEGD_INDEX, 0));
+    HOLDS(is_refusal(segd_sample_time(case_l, length, body, 4, 1, 0, 1u << 24).refusal, SEGD_INDEX, 0));
+    HOLDS(is_refusal(segd_skew(case_l, length, body, 0, 1).refusal, SEGD_SHEET, 0));
+    HOLDS(is_refusal(segd_skew_at(case_l, length, body, 5, 1, 0).refusal, SEGD_SHEET, 0));
+    HOLDS(is_refusal(segd_sample_time(case_l, length, body, 3, 1, 0, 0).refusal, SEGD_SHEET, 0));
+    HOLDS(is_refusal(segd_read_word(0x0023, 0, 0).refusal, SEGD_FORMAT, 0));
+    HOLDS(is_refusal(segd_read_word(0x8022, 0, UINT32_MAX).refusal, SEGD_DEMUX, 0));
+    HOLDS(is_refusal(segd_read_word(0x0022, 1, 0).refusal, SEGD_INDEX, 0));
+    HOLDS(is_refusal(segd_read_word(0x0015, 16, 0).refusal, SEGD_INDEX, 0));
+}
+
+int main(void)
+{
+    try_forged_whole();
+    try_forged_number();
+    try_forged_code();
+    try_forged_stop();
+    try_longest();
+    try_made_up();
+    try_room();
+    try_cut_blocks();
+    try_questions();
+    return finish();
+}
