@@ -26,7 +26,7 @@ use Rattle.body.specs.Open as O
 use Rattle.rules.specs.Tape.{Body}
 use Rattle.rules.specs.Scans.{Shape, shapeOf}
 use Rattle.rules.specs.Samples.{numbersAt}
-use Rattle.rules.specs.Outcome.{stopOf, doneOf, samplesOf, closing}
+use Rattle.rules.specs.Outcome.{stopOf, doneOf, numbersOf, closing}
 use Rattle.agree.specs.Calls.{Call, put, end, Bytes, BytesIn, Reading, readOn, readingOf, taken, bodyOf}
 use Rattle.agree.specs.Answers.{answerFrom, answerTo, closedOf}
 use Rattle.agree.specs.Agreement.{Agreement, TurnedAway}
@@ -43,7 +43,7 @@ unfolding upto
 twice f h zero = refl
 twice f h (suc n) = let r = twice f h n in rw (length-append, r, h n) (omega arith)
 
-samples-length : (sh : Shape) (d : Body) → length (samplesOf sh d) ≡ 2 * doneOf sh d
+samples-length : (sh : Shape) (d : Body) → length (numbersOf sh d) ≡ 2 * doneOf sh d
 unfolding numbersAt
 samples-length sh d = twice (numbersAt sh _) (λ i. refl) (doneOf sh d)
 
@@ -75,8 +75,8 @@ module _ (b : List ℕ) (bytes : Bytes b) (clear : headerFault b ≡ Clear) wher
   fits : (cs : List Call) → fitb (readingOf b cs .state) ≡ true
   fits cs = read-fits opening opened-fits cs
 
-  samples-at : (cs : List Call) → BytesIn cs → readingOf b cs .written ≡ samplesOf (shapeOf b) (bodyOf cs)
-  samples-at cs h = at cs h .samples ∙ ap (λ (sh : Shape). samplesOf sh (bodyOf cs)) (sym (shape-same b clear))
+  samples-at : (cs : List Call) → BytesIn cs → readingOf b cs .written ≡ numbersOf (shapeOf b) (bodyOf cs)
+  samples-at cs h = at cs h .samples ∙ ap (λ (sh : Shape). numbersOf sh (bodyOf cs)) (sym (shape-same b clear))
 
   stops-at : (cs : List Call) → BytesIn cs → stopIn (readingOf b cs .state) ≡ stopOf (shapeOf b) (bodyOf cs)
   stops-at cs h = at cs h .stops ∙ ap (λ (sh : Shape). stopOf sh (bodyOf cs)) (sym (shape-same b clear))

@@ -11,8 +11,8 @@ use lib.ListN.{getD}
 use borrow.Author.Tests.{le-leb, lt-ltb, eq-eqb}
 use Rattle.basis.specs.Choice.{_and_}
 use Rattle.refusals.specs.declared.Fault.the-variants.{Clear}
-use Rattle.codes.specs.Codes.{groupOf, perOf, leadOf, wordBytesOf, bitsOf, Groups, none, one, two, four, ten}
-use Rattle.codes.proofs.Rows.{groups}
+use Rattle.codes.specs.Codes.{groupOf, perOf, leadOf, wordBytesOf, bitsOf}
+use Rattle.codes.proofs.Rows.{groups, Groups, none, one, two, four, ten}
 use Rattle.block.specs.Bytes.{byte, lower}
 use Rattle.general.specs.General.{codeOf, bytesPerScan, intervalOf, scanTypes, scansPerBlock}
 use Rattle.sets.specs.Samples.{samplesOf}

@@ -15,7 +15,7 @@ use Rattle.codes.specs.Codes.{groupOf, perOf, leadOf, wordBytesOf}
 use Rattle.words.specs.Words.{valueOf}
 use Rattle.layout.specs.Places.{groupBytes}
 use Rattle.rules.specs.Scans.{Shape}
-use Rattle.rules.specs.Samples.{samplesBefore, valueAt}
+use Rattle.rules.specs.Samples.{doneBefore, valueAt}
 use Rattle.rules.proofs.Counts.{ended, ended-is, large}
 use Rattle.body.proofs.Digits.{Next, along, wrap, next}
 
@@ -65,8 +65,8 @@ module _ (k : Plan) (pos : 0 < width k) (some : 0 < per k) where
   pub wide : 0 < group k
   wide = large (per k) (lead k) (width k) pos some
 
-  pub before-is : (byte : ℕ → ℕ) (p : ℕ) → samplesBefore (shapeIn k) byte p ≡ samplesIn k (p / scan k) (p % scan k)
-  unfolding samplesBefore
+  pub before-is : (byte : ℕ → ℕ) (p : ℕ) → doneBefore (shapeIn k) byte p ≡ samplesIn k (p / scan k) (p % scan k)
+  unfolding doneBefore
   before-is byte p =
       ap (λ (x : ℕ). p / scan k * samples k + x)
       (ended-is (per k) (lead k) (width k) pos some (k .groups) (p % scan k) (let l : p % scan k < scan k = mod-lt p (omega arith) in omega arith))

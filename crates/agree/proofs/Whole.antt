@@ -39,7 +39,7 @@ use Rattle.rules.specs.Tape.{Body, ends, startOf, size, byteAt}
 use Rattle.rules.specs.Cuts.{Piece, spelled}
 use Rattle.rules.specs.Scans.{Shape}
 use Rattle.rules.specs.Faults.{byteFault, endFault}
-use Rattle.rules.specs.Outcome.{Report, Closing, refused, report, answered, placeOf, stopOf, samplesOf, reportOf, closing, lastType, firstItb, firstWindow}
+use Rattle.rules.specs.Outcome.{Report, Closing, refused, report, answered, stopPlace, stopOf, numbersOf, reportOf, closing, lastType, firstItb, firstWindow}
 use Rattle.rules.proofs.Uptos.{clear-at}
 use Rattle.rules.proofs.Tapes.{size-last}
 use Rattle.rules.proofs.Laws.{Halts, long, block, sync, timing, phase, halts-at, byte-halts, end-halts, stop-halts}
@@ -274,7 +274,7 @@ module _ (k : Plan) (pos : 0 < width k) (some : 0 < per k) (kind : Kind k) (type
 
   -- ---- the whole
   pub record AgreesAt (c : Run State ℤ) : Type 0 where
-    pub samples : c .out ≡ samplesOf (shapeIn k) d
+    pub samples : c .out ≡ numbersOf (shapeIn k) d
     pub stops : stopIn (c .st) ≡ stopOf (shapeIn k) d
     pub closes : N.finish (c .st) ≡ closedOf (closing (shapeIn k) d)
 
@@ -300,7 +300,7 @@ module _ (k : Plan) (pos : 0 < width k) (some : 0 < per k) (kind : Kind k) (type
             stops = sym f;
             closes = finish-same (ends d) (startOf d (ends d)) (h .begun) (size-last d) f;
           })
-      go (fell r i f c) = rw c (record { samples = rw (f, before-is k pos some (byteAt d) (placeOf r)); stops = halted-stop (form (byteAt d) k i (placeOf r)) r (stop-halts (shapeIn k) d r f) ∙ sym f; closes = halted-finish (form (byteAt d) k i (placeOf r)) r (stop-halts (shapeIn k) d r f) ∙ (unfold closing in (rw f)) })
+      go (fell r i f c) = rw c (record { samples = rw (f, before-is k pos some (byteAt d) (stopPlace r)); stops = halted-stop (form (byteAt d) k i (stopPlace r)) r (stop-halts (shapeIn k) d r f) ∙ sym f; closes = halted-finish (form (byteAt d) k i (stopPlace r)) r (stop-halts (shapeIn k) d r f) ∙ (unfold closing in (rw f)) })
 
 -- the same for a body that is handed over in pieces
 pub agree-pieces : (k : Plan) (pos : 0 < width k) (any : 0 < per k) (kind : Kind k) (typed : 1 ≤ k .types) (es : List Piece) (small : (p : ℕ) → byteAt (spelled es) p < 256)

@@ -10,7 +10,7 @@ use Rattle.header.specs.declared.Header.{Header}
 use Rattle.header.specs.declared.Answer.the-variants.{Accepted, Refused}
 use Rattle.header.specs.Answers.{headerAnswer}
 use Rattle.rules.specs.Scans.{shapeOf}
-use Rattle.rules.specs.Outcome.{samplesOf, closing}
+use Rattle.rules.specs.Outcome.{numbersOf, closing}
 use Rattle.scan.specs.Fit.{fitb}
 use Rattle.body.specs.declared.Opening.the-variants as P
 use Rattle.body.specs.Calls as K
@@ -24,7 +24,7 @@ pub record Agrees (b : List ℕ) (cs : List Call) : Type 0 where
   -- every state reached is fit
   pub fit : fitb (readingOf b cs .state) ≡ true
   -- the samples written are those completed before the stop, or the body's end
-  pub samples : readingOf b cs .written ≡ samplesOf (shapeOf b) (bodyOf cs)
+  pub samples : readingOf b cs .written ≡ numbersOf (shapeOf b) (bodyOf cs)
   -- what a next portion, a block end or the closing question is answered
   pub portions : (bs : List ℕ) (room : ℕ) → Bytes bs → K.portion (readingOf b cs .state) bs room .answer ≡ answerTo (shapeOf b) cs (put bs room)
   pub ends : N.blockEnd (readingOf b cs .state) .answer ≡ answerTo (shapeOf b) cs end

@@ -12,8 +12,8 @@ use borrow.Author.Tests.{eq-eqb, ne-eqb, lt-leb}
 use Rattle.basis.specs.Choice.{pick}
 use Rattle.codes.specs.declared.Row.{Row}
 use Rattle.codes.specs.declared.Found.the-variants.{At}
-use Rattle.codes.specs.Codes.{table, findIn, rowOf, groupIn, groupOf, perIn, leadIn, wordBytesIn, Groups, none, one, two, four, ten}
-use Rattle.codes.proofs.Rows.{holds, row-code, row-groups}
+use Rattle.codes.specs.Codes.{table, findIn, rowOf, groupIn, groupOf, perIn, leadIn, wordBytesIn}
+use Rattle.codes.proofs.Rows.{holds, row-code, row-groups, Groups, none, one, two, four, ten}
 use Rattle.words.specs.Words.{valued, valueOf}
 use Rattle.words.specs.Entries.{tabled, wordBy, Reads}
 use Rattle.runs.specs.Words.{byteIn, tableValue, plainValue}

@@ -6,8 +6,8 @@ use mathlib.Core.List.{List}
 use native.Mathlib.Omega.{arith}
 use Rattle.codes.specs.declared.Row.{Row}
 use Rattle.codes.specs.declared.Found.the-variants.{At}
-use Rattle.codes.specs.Codes.{rowOf, groupOf, perOf, leadOf, wordBytesOf, bitsOf, groupIn, perIn, leadIn, wordBytesIn, Groups, none, one, two, four, ten}
-use Rattle.codes.proofs.Rows.{groups, group-row, row-groups, fit}
+use Rattle.codes.specs.Codes.{rowOf, groupOf, perOf, leadOf, wordBytesOf, bitsOf, groupIn, perIn, leadIn, wordBytesIn}
+use Rattle.codes.proofs.Rows.{groups, group-row, row-groups, fit, Groups, none, one, two, four, ten}
 use Rattle.scan.specs.declared.State.{State}
 use Rattle.scan.proofs.Shapes.{shape-parts}
 use Rattle.body.specs.Bulk.{Able}

@@ -1,5 +1,5 @@
 -- A run of whole words, or groups, within one scan: where it may be taken at once, and what it then comes to.
--- Assumes nothing.
+-- Cited by private functions alone. Assumes nothing.
 use Prim.Native.Nat.{ℕ, _+_, _-_, _%_, _≤_, _<_}
 use mathlib.Core.Path.{_≡_}
 use mathlib.Core.List.{List, _++_}

@@ -46,7 +46,7 @@ taken s bs room =
 unfoldable pub portion : State → List ℕ → ℕ → Gave
 portion s bs room = pick (fitb s) (taken s bs room) (unchanged s R.State)
 
--- the numbers that it writes: "output past the samples written is untouched"
+-- the numbers that it writes
 unfoldable pub kept : State → List ℕ → ℕ → List ℤ
 kept s bs room = pick (eqb (s .stop) 0) (pick (ltb (room / 2) (length bs)) [] (wrote s bs)) []
 

@@ -1,5 +1,5 @@
 pub mod Open
-pub mod Bulk
 pub mod Calls
 pub mod Ends
+pub mod Bulk
 pub mod Spots

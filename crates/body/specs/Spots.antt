@@ -1,5 +1,5 @@
 -- Where a byte stands in its word: groups of w bytes from place 8 of a scan on, ten of them four words after their exponents.
--- Assumes nothing.
+-- Cited by private functions alone. Assumes nothing.
 use Prim.Native.Nat.{ℕ, _-_, _%_}
 use mathlib.Core.Bool.{Bool, false, not, _&&_}
 use lib.Dec.{eqb}

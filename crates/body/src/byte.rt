@@ -264,7 +264,7 @@ fn width(w: u32) -> u32
     if w == 10 { 2 } else { w }
 }
 
-// A byte of the sample words, q its place in the scan. This is the one call of `read`.
+// A byte of the sample words, q its place in the scan. There is no other call of `read`, so it is inlined here.
 fn word(s: State, row: Row, table: &[u16; 256], b: u8, q: u32) -> Stepped
     requires { ⌜ Reads (s .shape .code) row (now table) ⌝ }
     requires { ⌜ (s .place < 4294967295) × (s .off ≤ s .place) × (8 ≤ q) ⌝ }

@@ -63,6 +63,7 @@ fn put(out: &mut [i32], n: usize, w: Value)
     out[n + 1] = x;
 }
 
+// The bytes of a portion that has room: whole words at once where they lie ahead, else one byte. There is no other call of `step`.
 fn feed(s: State, row: Row, table: &[u16; 256], bytes: &[u8], out: &mut [i32]) -> Gave
     requires { ⌜ Reads (s .shape .code) row (now table) ⌝ }
     requires { ⌜ Fit s ⌝ }

@@ -15,7 +15,15 @@ use Rattle.basis.proofs.Tables.{every}
 use Rattle.codes.specs.declared.Row.{Row}
 use Rattle.codes.specs.declared.Found.{Found}
 use Rattle.codes.specs.declared.Found.the-variants.{At, Nothing}
-use Rattle.codes.specs.Codes.{findIn, table, rowOf, Fit, soundRow, groupIn, groupOf, perIn, perOf, leadIn, leadOf, wordBytesIn, wordBytesOf, bitsOf, ofRow, Groups, none, one, two, four, ten}
+use Rattle.codes.specs.Codes.{findIn, table, rowOf, Fit, soundRow, groupIn, groupOf, perIn, perOf, leadIn, leadOf, wordBytesIn, wordBytesOf, bitsOf, ofRow}
+
+-- what the groups of a code are: none, a word of one, two or four bytes, or ten bytes of four samples
+pub data Groups (group per lead word bits : ℕ) : Type 0 where
+  none : group ≡ 0 → bits ≡ 0 → Groups group per lead word bits
+  one : group ≡ 1 → per ≡ 1 → lead ≡ 0 → word ≡ 1 → bits ≡ 8 → Groups group per lead word bits
+  two : group ≡ 2 → per ≡ 1 → lead ≡ 0 → word ≡ 2 → bits ≡ 16 → Groups group per lead word bits
+  four : group ≡ 4 → per ≡ 1 → lead ≡ 0 → word ≡ 4 → bits ≡ 32 → Groups group per lead word bits
+  ten : group ≡ 10 → per ≡ 4 → lead ≡ 2 → word ≡ 2 → bits ≡ 20 → Groups group per lead word bits
 
 never : {r : Row} → Nothing ≡ At r → ⊥
 never e = let z : _≡_ {A = ℕ} 0 1 = cc in omega arith

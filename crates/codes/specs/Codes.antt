@@ -65,7 +65,7 @@ soundRow r =
     leb (r .apart) 4 && leb (r .fraction) 23 && leb (r .exponent) 7 && leb (1 + r .exponent + r .fraction) (r .width)
     && leb (r .width) 32 && leb (r .apart) (r .exponent) && leb 4 (r .fraction) && leb (r .base) 4 && leb (r .bias) 64
 
--- bytes of a group of samples on tape: one word; or, where exponents stand apart, "four c of 4 bits, then four" words
+-- bytes of a group of samples on tape: one word; or, where exponents stand apart, "four c of 4 bits, then four" words: four samples
 unfoldable pub groupIn : Row → ℕ
 groupIn r = pick (eqb (r .apart) 0) (r .width / 8) (r .width / 2)
 
@@ -102,11 +102,3 @@ wordBytesOf code = ofRow wordBytesIn (rowOf code)
 -- bits of a sample on tape, its part of the exponents among them
 unfoldable pub bitsOf : ℕ → ℕ
 bitsOf code = ofRow (λ (r : Row). r .width) (rowOf code)
-
--- what the groups of a code are: none, a word of one, two or four bytes, or ten bytes of four samples
-pub data Groups (group per lead word bits : ℕ) : Type 0 where
-  none : group ≡ 0 → bits ≡ 0 → Groups group per lead word bits
-  one : group ≡ 1 → per ≡ 1 → lead ≡ 0 → word ≡ 1 → bits ≡ 8 → Groups group per lead word bits
-  two : group ≡ 2 → per ≡ 1 → lead ≡ 0 → word ≡ 2 → bits ≡ 16 → Groups group per lead word bits
-  four : group ≡ 4 → per ≡ 1 → lead ≡ 0 → word ≡ 4 → bits ≡ 32 → Groups group per lead word bits
-  ten : group ≡ 10 → per ≡ 4 → lead ≡ 2 → word ≡ 2 → bits ≡ 20 → Groups group per lead word bits

@@ -3,7 +3,7 @@ ghost use mathlib.Core.Path.{_≡_};
 ghost use Prim.Native.Nat.{_≤_};
 ghost use Rattle.codes.specs.Codes.{rowOf, soundRow, groupIn, groupOf, bitsOf};
 
-// How a fraction is kept: its negatives complemented; with a sign beside it; or so and left justified in hexadecimal digits.
+// How a fraction is kept: its negatives complemented; with a sign beside it; or with a sign, and left justified in hexadecimal digits.
 pub enum Kind {
     OnesComplement,
     SignMagnitude,

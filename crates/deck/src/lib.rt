@@ -1,5 +1,5 @@
-// The calls that a deck's firmware links, in C's terms: numbers, slices as a pointer and a length, structs of numbers. Each is the
-// call of the same name on the library below, its answer laid flat.
+// The calls that a deck's firmware links, in C's terms: numbers, slices as a pointer and a length, structs of numbers. Each is a
+// call of a library below, most by the same name, its answer laid flat.
 ghost use mathlib.Core.Path.{_≡_};
 ghost use Rattle.codes.specs.Codes.{rowOf};
 ghost use Rattle.words.specs.Words.{wordOf};

@@ -16,7 +16,7 @@ use Rattle.general.specs.General.{generalDigits, within, timeInRange, isInterva
 use Rattle.sets.specs.Descriptors.{placeOf, descriptorAt, descriptorHolds, fourHolds, setFault, scanTypeFault, descriptorsFault}
 use Rattle.sets.specs.Samples.{setSamples, samplesOf}
 use Rattle.header.specs.Faults.{sizeHolds, sizeFault, sizesFault, skewHolds, headerFault}
-use Rattle.layout.specs.Indexes.{passed, setAt, setOf, isPlace, spotOf, placeFault, placeAnswer}
+use Rattle.layout.specs.Indexes.{passed, setAt, setOf, hasSample, spotOf, placeFault, placeAnswer}
 use Rattle.parts.specs.Times.{timeBy}
 use Rattle.demands.specs.Figures.{Says, header, place, starred, All, figures}
 
@@ -27,11 +27,11 @@ accepted = (refl, refl, refl, refl, refl)
 
 -- and so its samples have their places
 placed : Says (place starred 112 (Sits 3 1 1))
-unfolding pick upto written isPair pairOf byte upper lower pair decimal threeDigits binary pairs within placeOf descriptorAt setSamples samplesOf _and_ passed setAt setOf isPlace spotOf placeFault placeAnswer
+unfolding pick upto written isPair pairOf byte upper lower pair decimal threeDigits binary pairs within placeOf descriptorAt setSamples samplesOf _and_ passed setAt setOf hasSample spotOf placeFault placeAnswer
 placed = rw (accepted .0)
 
 past : Says (place starred 148 (NoPlace refusal.Index))
-unfolding pick upto written isPair pairOf byte upper lower pair decimal threeDigits binary pairs within placeOf descriptorAt setSamples samplesOf _and_ isPlace placeFault placeAnswer
+unfolding pick upto written isPair pairOf byte upper lower pair decimal threeDigits binary pairs within placeOf descriptorAt setSamples samplesOf _and_ hasSample placeFault placeAnswer
 past = rw (accepted .0)
 
 pub all-figures : All figures

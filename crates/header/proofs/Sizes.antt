@@ -6,8 +6,8 @@ use native.Mathlib.Nat.{mul-div-cancel, mul-le-mul-left}
 use native.Mathlib.Omega.{arith}
 use Rattle.codes.specs.declared.Row.{Row}
 use Rattle.codes.specs.declared.Found.the-variants.{At}
-use Rattle.codes.specs.Codes.{rowOf, bitsOf, Groups, none, one, two, four, ten}
-use Rattle.codes.proofs.Rows.{fit, groups}
+use Rattle.codes.specs.Codes.{rowOf, bitsOf}
+use Rattle.codes.proofs.Rows.{fit, groups, Groups, none, one, two, four, ten}
 
 -- equal products by one factor that is not 0
 pub cancel : (a b n : ℕ) → 0 < n → a * n ≡ b * n → a ≡ b

@@ -23,7 +23,7 @@ sizeFault b t = when (not (sizeHolds b t)) (Size (t + 1))
 unfoldable pub sizesFault : List ℕ → Fault
 sizesFault b = firstUpto (sizeFault b) (scanTypes b)
 
--- E3: SK is 0, "or S/S divided by 32, rounded up"
+-- E3: SK is 0, "or S/S divided by 32, rounded up"; of scan type 1, since SIZE, which comes before, makes all alike
 unfoldable pub skewHolds : List ℕ → Bool
 skewHolds b = eqb (skewFields b) 0 || eqb (skewFields b) ((samplesOf b 0 + 31) / 32)
 

@@ -38,7 +38,7 @@ pub struct Header {
     pub block_exponent: u8,
     pub block_scans: u8,
     pub record_type: u8,
-    // the three digits R1 R2 R3
+    // the three digits R1 R2 R3, in 0.1024 s; 0: not determined
     pub record_length: u16,
     // ST/R, CS, SK, EC, EX
     pub scan_types: u8,

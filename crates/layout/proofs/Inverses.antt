@@ -25,7 +25,7 @@ use Rattle.layout.specs.declared.Index.{Index}
 use Rattle.layout.specs.declared.Index.the-variants.{Sample}
 use Rattle.layout.specs.declared.Place.{Place}
 use Rattle.layout.specs.declared.Place.the-variants.{Sits}
-use Rattle.layout.specs.Indexes.{isSample, indexOf, indexFault, indexAfter, indexAnswer, setAt, setOf, isPlace, spotOf, placeFault, placeAfter, placeAnswer}
+use Rattle.layout.specs.Indexes.{hasPlace, indexOf, indexFault, indexAfter, indexAnswer, setAt, setOf, hasSample, spotOf, placeFault, placeAfter, placeAnswer}
 use Rattle.layout.specs.Inverse.{Reached, Inverse}
 use Rattle.layout.proofs.Facts.{kept}
 use Rattle.layout.proofs.SetLaws.{set-at, set-of-sample, in-total, set-below, rest-below, in-set, channel-is, subscan-is, factor-pos}
@@ -41,16 +41,16 @@ pub record Asked (b : List ℕ) (t s c u : ℕ) : Type 0 where
   pub channel : (1 ≤ c) × (c ≤ channelsOf b (t - 1) (s - 1))
   pub subscan : u < subscansOf b (t - 1) (s - 1)
 
-pub asked : (b : List ℕ) (t s c u : ℕ) → isSample b t s c u ≡ true → Asked b t s c u
-unfolding isSample isSet
+pub asked : (b : List ℕ) (t s c u : ℕ) → hasPlace b t s c u ≡ true → Asked b t s c u
+unfolding hasPlace isSet
 asked b t s c u e =
     let w = both-true (isSet b t s) _ e in
     let v = and-true _ _ (w .0) in
     let x = and-true (within 1 c (channelsOf b (t - 1) (s - 1))) _ (w .1) in
     record { scan = within-is _ _ _ (v .0); set = within-is _ _ _ (v .1); channel = within-is _ _ _ (x .0); subscan = ltb-true _ _ (x .1) }
 
-is-asked : (b : List ℕ) (t s c u : ℕ) → Asked b t s c u → isSample b t s c u ≡ true
-unfolding isSample isSet _and_
+is-asked : (b : List ℕ) (t s c u : ℕ) → Asked b t s c u → hasPlace b t s c u ≡ true
+unfolding hasPlace isSet _and_
 is-asked b t s c u a =
     rw (
       is-within 1 t (scanTypes b) (a .scan .0) (a .scan .1),
@@ -60,16 +60,16 @@ is-asked b t s c u a =
     )
 
 -- those of the second
-pub place-asked : (b : List ℕ) (t k : ℕ) → isPlace b t k ≡ true → (1 ≤ t) × (t ≤ scanTypes b) × (k < samplesOf b (t - 1))
-unfolding isPlace
+pub place-asked : (b : List ℕ) (t k : ℕ) → hasSample b t k ≡ true → (1 ≤ t) × (t ≤ scanTypes b) × (k < samplesOf b (t - 1))
+unfolding hasSample
 place-asked b t k e =
     let w = both-true (within 1 t (scanTypes b)) _ e in
     let v = within-is 1 t (scanTypes b) (w .0) in
     (v .0, v .1, ltb-true _ _ (w .1))
 
-is-place-asked : (b : List ℕ) (t k : ℕ) → 1 ≤ t → t ≤ scanTypes b → k < samplesOf b (t - 1) → isPlace b t k ≡ true
-unfolding isPlace _and_
-is-place-asked b t k p q h = rw (is-within 1 t (scanTypes b) p q, lt-ltb k (samplesOf b (t - 1)) h)
+has-sample-asked : (b : List ℕ) (t k : ℕ) → 1 ≤ t → t ≤ scanTypes b → k < samplesOf b (t - 1) → hasSample b t k ≡ true
+unfolding hasSample _and_
+has-sample-asked b t k p q h = rw (is-within 1 t (scanTypes b) p q, lt-ltb k (samplesOf b (t - 1)) h)
 
 -- a sample's number is below S/S
 pub index-below : (b : List ℕ) (t s c u : ℕ) → Asked b t s c u → indexOf b t s c u < samplesOf b (t - 1)
@@ -85,7 +85,7 @@ pub record Small (b : List ℕ) (t s c u : ℕ) : Type 0 where
   pub channel : 1 ≤ c
   pub total : samplesBefore b (t - 1) (s - 1) + (u * channelsOf b (t - 1) (s - 1) + (c - 1)) < 2 ^ 21
 
-pub sample-small : (b : List ℕ) (t s c u : ℕ) → headerFault b ≡ Clear → isSample b t s c u ≡ true → Small b t s c u
+pub sample-small : (b : List ℕ) (t s c u : ℕ) → headerFault b ≡ Clear → hasPlace b t s c u ≡ true → Small b t s c u
 unfolding indexOf
 sample-small b t s c u e p =
     let a = asked b t s c u p in
@@ -159,17 +159,17 @@ index-of-spot b t k s c u p q h e =
     )
 
 -- a question that is not turned away
-pub index-clear : (b : List ℕ) (t s c u : ℕ) → indexFault b t s c u ≡ Clear → (headerFault b ≡ Clear) × (isSample b t s c u ≡ true)
+pub index-clear : (b : List ℕ) (t s c u : ℕ) → indexFault b t s c u ≡ Clear → (headerFault b ≡ Clear) × (hasPlace b t s c u ≡ true)
 unfolding indexFault
 index-clear b t s c u e =
     let v = both-clear (headerFault b) (when _ refusals.Index) e in
-    (v .0, kept (isSample b t s c u) refusals.Index (v .1))
+    (v .0, kept (hasPlace b t s c u) refusals.Index (v .1))
 
-pub place-clear : (b : List ℕ) (t k : ℕ) → placeFault b t k ≡ Clear → (headerFault b ≡ Clear) × (isPlace b t k ≡ true)
+pub place-clear : (b : List ℕ) (t k : ℕ) → placeFault b t k ≡ Clear → (headerFault b ≡ Clear) × (hasSample b t k ≡ true)
 unfolding placeFault
 place-clear b t k e =
     let v = both-clear (headerFault b) (when _ refusals.Index) e in
-    (v .0, kept (isPlace b t k) refusals.Index (v .1))
+    (v .0, kept (hasSample b t k) refusals.Index (v .1))
 
 pub place-small : (b : List ℕ) (t k : ℕ) → placeFault b t k ≡ Clear → (1 ≤ t) × (t ≤ 99) × (k < samplesOf b (t - 1))
 place-small b t k e =
@@ -209,7 +209,7 @@ place-answered b t k s c u e =
 place-answers : (b : List ℕ) (t k s c u : ℕ) → headerFault b ≡ Clear → 1 ≤ t → t ≤ scanTypes b → k < samplesOf b (t - 1) → spotOf b (t - 1) k ≡ Sits s c u
     → placeAnswer b t k ≡ Sits s c u
 unfolding placeAnswer placeFault pick
-place-answers b t k s c u e p q h w = rw (e, is-place-asked b t k p q h, w)
+place-answers b t k s c u e p q h w = rw (e, has-sample-asked b t k p q h, w)
 
 pub back : (b : List ℕ) (t s c u k : ℕ) → indexAnswer b t s c u ≡ Sample k → placeAnswer b t k ≡ Sits s c u
 back b t s c u k e =

@@ -5,8 +5,8 @@ use mathlib.Core.Path.{_≡_}
 use mathlib.Core.List.{List}
 use native.Mathlib.Omega.{arith}
 use Rattle.refusals.specs.declared.Fault.the-variants.{Clear}
-use Rattle.codes.specs.Codes.{perOf, leadOf, wordBytesOf, bitsOf, Groups, none, one, two, four, ten}
-use Rattle.codes.proofs.Rows.{groups}
+use Rattle.codes.specs.Codes.{perOf, leadOf, wordBytesOf, bitsOf}
+use Rattle.codes.proofs.Rows.{groups, Groups, none, one, two, four, ten}
 use Rattle.general.specs.General.{codeOf, bytesPerScan, scanTypes}
 use Rattle.sets.specs.Samples.{samplesOf}
 use Rattle.header.specs.Faults.{headerFault}

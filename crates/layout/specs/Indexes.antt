@@ -20,9 +20,9 @@ use Rattle.layout.specs.declared.Index.the-variants.{Sample, NoSample}
 use Rattle.layout.specs.declared.Place.{Place}
 use Rattle.layout.specs.declared.Place.the-variants.{Sits, NoPlace}
 
--- there is such a channel and subscan
-unfoldable pub isSample : List ℕ → ℕ → ℕ → ℕ → ℕ → Bool
-isSample b t s c u =
+-- there is such a scan type, set, channel and subscan
+unfoldable pub hasPlace : List ℕ → ℕ → ℕ → ℕ → ℕ → Bool
+hasPlace b t s c u =
     isSet b t s and (within 1 c (channelsOf b (t - 1) (s - 1)) && ltb u (subscansOf b (t - 1) (s - 1)))
 
 -- "sets in order; in a set, subscans from 0; in a subscan, channels from 1"
@@ -31,7 +31,7 @@ indexOf b t s c u = samplesBefore b (t - 1) (s - 1) + (u * channelsOf b (t - 1) 
 
 -- "Questions: header, 11"
 unfoldable pub indexFault : List ℕ → ℕ → ℕ → ℕ → ℕ → Fault
-indexFault b t s c u = orElse (headerFault b) (when (not (isSample b t s c u)) refusals.Index)
+indexFault b t s c u = orElse (headerFault b) (when (not (hasPlace b t s c u)) refusals.Index)
 
 abbrev pub indexAfter : Fault → ℕ → Index
 indexAfter Clear k = Sample k
@@ -49,12 +49,13 @@ passed f k s = pick (leb (sumUpto f (s + 1)) k) 1 0
 unfoldable pub setAt : (ℕ → ℕ) → ℕ → ℕ → ℕ
 setAt f k n = sumUpto (passed f k) n
 
+-- the set of sample k of scan type t, both counting from 0
 unfoldable pub setOf : List ℕ → ℕ → ℕ → ℕ
 setOf b t k = setAt (setSamples b t) k (channelSets b)
 
--- there is such a sample
-unfoldable pub isPlace : List ℕ → ℕ → ℕ → Bool
-isPlace b t k = within 1 t (scanTypes b) and ltb k (samplesOf b (t - 1))
+-- there is such a scan type and sample
+unfoldable pub hasSample : List ℕ → ℕ → ℕ → Bool
+hasSample b t k = within 1 t (scanTypes b) and ltb k (samplesOf b (t - 1))
 
 -- sample j of set s of scan type t, all counting from 0: its subscan is how often the set's channels were gone through before it
 abbrev pub sits : List ℕ → ℕ → ℕ → ℕ → Place
@@ -66,7 +67,7 @@ spotOf b t k = sits b t (setOf b t k) (k - samplesBefore b t (setOf b t k))
 
 -- "Questions: header, 11"
 unfoldable pub placeFault : List ℕ → ℕ → ℕ → Fault
-placeFault b t k = orElse (headerFault b) (when (not (isPlace b t k)) refusals.Index)
+placeFault b t k = orElse (headerFault b) (when (not (hasSample b t k)) refusals.Index)
 
 abbrev pub placeAfter : Fault → Place → Place
 placeAfter Clear p = p

@@ -10,7 +10,7 @@ ghost use Rattle.general.specs.General.{scanTypes, within};
 ghost use Rattle.sets.specs.Samples.{samplesOf};
 ghost use Rattle.header.specs.Faults.{headerFault};
 ghost use Rattle.header.specs.Answers.{isSet};
-ghost use Rattle.layout.specs.Indexes.{isSample, indexOf, indexFault, indexAnswer, setOf, isPlace, spotOf, placeFault, placeAnswer};
+ghost use Rattle.layout.specs.Indexes.{hasPlace, indexOf, indexFault, indexAnswer, setOf, hasSample, spotOf, placeFault, placeAnswer};
 use block::pair_at;
 use header::header_fault;
 use refusals::Fault;
@@ -49,9 +49,9 @@ fn is_set(b: &[u8], t: u32, s: u32) -> bool
 }
 
 // Whether an accepted header has such a channel and subscan.
-fn is_sample(b: &[u8], t: u32, s: u32, c: u32, u: u32) -> bool
+fn has_place(b: &[u8], t: u32, s: u32, c: u32, u: u32) -> bool
     requires { ⌜ headerFault (now b) ≡ Clear ⌝ }
-    ensures { λ r. ⌜ r ≡ isSample (now (b .entry)) t s c u ⌝ }
+    ensures { λ r. ⌜ r ≡ hasPlace (now (b .entry)) t s c u ⌝ }
 {
     if !is_set(b, t, s) {
         return false;
@@ -64,7 +64,7 @@ fn is_sample(b: &[u8], t: u32, s: u32, c: u32, u: u32) -> bool
 
 // The number of a sample that there is.
 fn index_of(b: &[u8], t: u32, s: u32, c: u32, u: u32) -> u32
-    requires { ⌜ (headerFault (now b) ≡ Clear) × (isSample (now b) t s c u ≡ true) ⌝ }
+    requires { ⌜ (headerFault (now b) ≡ Clear) × (hasPlace (now b) t s c u ≡ true) ⌝ }
     ensures { λ r. ⌜ r ≡ indexOf (now (b .entry)) t s c u ⌝ }
 {
     let t = (t - 1) as u8;
@@ -81,7 +81,7 @@ fn index_fault(b: &[u8], t: u32, s: u32, c: u32, u: u32) -> Fault
     if let Fault::At(r) = f {
         return Fault::At(r);
     }
-    if is_sample(b, t, s, c, u) {
+    if has_place(b, t, s, c, u) {
         return Fault::Clear;
     }
     Fault::At(Refusal::Index)
@@ -99,9 +99,9 @@ pub fn sample_index(block: &[u8], scan_type: u32, set: u32, channel: u32, subsca
 }
 
 // Whether an accepted header has such a sample.
-fn is_place(b: &[u8], t: u32, k: u32) -> bool
+fn has_sample(b: &[u8], t: u32, k: u32) -> bool
     requires { ⌜ headerFault (now b) ≡ Clear ⌝ }
-    ensures { λ r. ⌜ r ≡ isPlace (now (b .entry)) t k ⌝ }
+    ensures { λ r. ⌜ r ≡ hasSample (now (b .entry)) t k ⌝ }
 {
     if !is_scan_type(b, t) {
         return false;
@@ -118,7 +118,7 @@ pub fn place_fault(block: &[u8], scan_type: u32, k: u32) -> Fault
     if let Fault::At(r) = f {
         return Fault::At(r);
     }
-    if is_place(block, scan_type, k) {
+    if has_sample(block, scan_type, k) {
         return Fault::Clear;
     }
     Fault::At(Refusal::Index)

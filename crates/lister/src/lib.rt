@@ -98,8 +98,8 @@ fn hear(
     }
 }
 
-// One step over a portion of an image, from place at on. It lends room for a header item, for the
-// numbers of a portion's samples, and for a line.
+// One step over a portion of an image, from place at on. The caller lends room for a header item, for
+// the numbers of a portion's samples, and for a line.
 pub fn advance(
     t: Tape,
     bytes: &[u8],

@@ -26,7 +26,7 @@ use Rattle.layout.proofs.Facts.{kept}
 use Rattle.layout.proofs.Inverses.{place-clear, place-asked}
 use Rattle.parts.specs.Slices.{slice, part}
 use Rattle.parts.specs.Parts.{extendedPlace, externalPlace}
-use Rattle.parts.specs.Skews.{source, skewPlace, sheetHolds, skewFault, skewOf, skewByte, byteFault}
+use Rattle.parts.specs.Skews.{source, skewPlace, sheetHolds, skewFault, skewOf, skewByte, skewByteFault}
 use Rattle.parts.specs.Times.{timeFault}
 
 pub block-long : (b : List ℕ) → headerFault b ≡ Clear → 32 ≤ length b
@@ -57,8 +57,8 @@ skew-asked b sheet t e =
     let w = within-is 1 t (scanTypes b) (kept (within 1 t (scanTypes b)) Index (q .0)) in
     record { accepts = p .0; least = w .0; greatest = w .1; small = omega (arith, w .1, types-few b (p .0) .1); holds = kept (sheetHolds b sheet) Sheet (q .1) }
 
-pub byte-asked : (b sheet : List ℕ) (t k : ℕ) → byteFault b sheet t k ≡ Clear → Asked b sheet t × (k < samplesOf b (t - 1))
-unfolding byteFault
+pub byte-asked : (b sheet : List ℕ) (t k : ℕ) → skewByteFault b sheet t k ≡ Clear → Asked b sheet t × (k < samplesOf b (t - 1))
+unfolding skewByteFault
 byte-asked b sheet t k e =
     let p = both-clear (placeFault b t k) _ e in
     let v = place-clear b t k (p .0) in
@@ -92,8 +92,8 @@ source-bytes b sheet p q = by-test (eqb (skewFields b) 0)
     by-test false = refl
 
 -- a question for a time that is not refused
-pub time-clear : (b sheet : List ℕ) (t k T : ℕ) → timeFault b sheet t k T ≡ Clear → (byteFault b sheet t k ≡ Clear) × (T < 2 ^ 24)
-unfolding timeFault byteFault
+pub time-clear : (b sheet : List ℕ) (t k T : ℕ) → timeFault b sheet t k T ≡ Clear → (skewByteFault b sheet t k ≡ Clear) × (T < 2 ^ 24)
+unfolding timeFault skewByteFault
 time-clear b sheet t k T e =
     let p = both-clear (placeFault b t k) _ e in
     let q = both-clear (when (not (ltb T (2 ^ 24))) Index) _ (p .1) in

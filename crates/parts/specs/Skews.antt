@@ -1,4 +1,5 @@
--- The skew bytes of a scan type, one for each sample of a scan. Scan type t counts from 1 in a question, and from 0 before it.
+-- The skew bytes of a scan type, one for each sample of a scan. Scan type t counts from 1
+-- in what a question asks (skewFault, skewPart, skewByteFault, skewAnswer), and from 0 elsewhere.
 -- Assumes nothing.
 use Prim.Native.Nat.{ℕ, _+_, _*_, _-_}
 use mathlib.Core.Bool.{Bool, not, _||_}
@@ -49,12 +50,12 @@ unfoldable pub skewByte : List ℕ → List ℕ → ℕ → ℕ → ℕ
 skewByte b sheet t k = getD (source b b sheet) (skewPlace b t + k) 0
 
 -- "Questions: header, 11, 12", of one sample
-unfoldable pub byteFault : List ℕ → List ℕ → ℕ → ℕ → Fault
-byteFault b sheet t k = orElse (placeFault b t k) (when (not (sheetHolds b sheet)) Sheet)
+unfoldable pub skewByteFault : List ℕ → List ℕ → ℕ → ℕ → Fault
+skewByteFault b sheet t k = orElse (placeFault b t k) (when (not (sheetHolds b sheet)) Sheet)
 
 abbrev pub skewAfter : Fault → ℕ → Skewed
 skewAfter Clear x = Skew x
 skewAfter (At r) x = NoSkew r
 
 unfoldable pub skewAnswer : List ℕ → List ℕ → ℕ → ℕ → Skewed
-skewAnswer b sheet t k = skewAfter (byteFault b sheet t k) (skewByte b sheet (t - 1) k)
+skewAnswer b sheet t k = skewAfter (skewByteFault b sheet t k) (skewByte b sheet (t - 1) k)

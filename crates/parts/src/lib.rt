@@ -10,7 +10,7 @@ ghost use Rattle.sets.specs.Samples.{samplesOf};
 ghost use Rattle.header.specs.Faults.{headerFault};
 ghost use Rattle.parts.specs.Slices.{slice, part};
 ghost use Rattle.parts.specs.Parts.{extendedPlace, constantsPart, extendedPart, externalPart};
-ghost use Rattle.parts.specs.Skews.{source, skewPlace, sheetHolds, skewFault, skewOf, skewPart, skewByte, byteFault, skewAnswer};
+ghost use Rattle.parts.specs.Skews.{source, skewPlace, sheetHolds, skewFault, skewOf, skewPart, skewByte, skewByteFault, skewAnswer};
 ghost use Rattle.parts.specs.Times.{timeBy, timeFault, timeAnswer};
 use block::byte_at;
 use block::pair_at;
@@ -165,8 +165,8 @@ pub fn skew<'a>(block: &'a [u8], sheet: &'a [u8], scan_type: u32) -> &'a [u8]
     }
 }
 
-fn byte_fault(block: &[u8], sheet: &[u8], t: u32, k: u32) -> Fault
-    ensures { λ r. ⌜ r ≡ byteFault (now (block .entry)) (now (sheet .entry)) t k ⌝ }
+fn skew_byte_fault(block: &[u8], sheet: &[u8], t: u32, k: u32) -> Fault
+    ensures { λ r. ⌜ r ≡ skewByteFault (now (block .entry)) (now (sheet .entry)) t k ⌝ }
 {
     let f = place_fault(block, t, k);
     if let Fault::At(r) = f {
@@ -180,7 +180,7 @@ fn byte_fault(block: &[u8], sheet: &[u8], t: u32, k: u32) -> Fault
 
 // The skew byte of sample k, which there is.
 fn skew_byte(block: &[u8], sheet: &[u8], t: u32, k: u32) -> u8
-    requires { ⌜ byteFault (now block) (now sheet) t k ≡ Clear ⌝ }
+    requires { ⌜ skewByteFault (now block) (now sheet) t k ≡ Clear ⌝ }
     ensures { λ r. ⌜ r ≡ skewByte (now (block .entry)) (now (sheet .entry)) (t - 1) k ⌝ }
 {
     let i = skew_place(block, (t - 1) as u8) + k as usize;
@@ -192,7 +192,7 @@ fn skew_byte(block: &[u8], sheet: &[u8], t: u32, k: u32) -> u8
 pub fn skew_at(block: &[u8], sheet: &[u8], scan_type: u32, k: u32) -> Skewed
     ensures { λ r. ⌜ r ≡ skewAnswer (now (block .entry)) (now (sheet .entry)) «scan_type» k ⌝ }
 {
-    let f = byte_fault(block, sheet, scan_type, k);
+    let f = skew_byte_fault(block, sheet, scan_type, k);
     match f {
         Fault::At(r) => Skewed::NoSkew(r),
         Fault::Clear => Skewed::Skew(skew_byte(block, sheet, scan_type, k)),

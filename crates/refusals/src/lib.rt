@@ -55,6 +55,7 @@ fn in_row(number: u32, first: u32, second: u32) -> Told
     }
 }
 
+// A refusal in numbers: its row, and the values that the row names.
 pub fn tell(refusal: Refusal) -> Told
     ensures { λ t. ⌜ t ≡ told refusal ⌝ }
 {

@@ -14,7 +14,7 @@ use Rattle.rules.specs.Tape.{Body, byteAt}
 use Rattle.rules.specs.First.{Stops, atByte, atEnd}
 use Rattle.rules.specs.Scans.{Shape}
 use Rattle.rules.specs.Faults.{byteFault, endFault}
-use Rattle.rules.specs.Outcome.{placeOf, stopOf}
+use Rattle.rules.specs.Outcome.{stopPlace, stopOf}
 use Rattle.rules.proofs.Uptos.{clear-at, at-either}
 use Rattle.rules.proofs.First.{first-fault}
 
@@ -26,7 +26,7 @@ pub data Halts (p : ℕ) : Refusal → Type 0 where
   timing : Halts p (Timing p)
   phase : Halts p (Phase p)
 
-pub halts-at : {p : ℕ} {r : Refusal} → Halts p r → placeOf r ≡ p
+pub halts-at : {p : ℕ} {r : Refusal} → Halts p r → stopPlace r ≡ p
 halts-at long = refl
 halts-at block = refl
 halts-at sync = refl
@@ -66,12 +66,12 @@ module _ (sh : Shape) (byte : ℕ → ℕ) where
 pub stop-first : (sh : Shape) (d : Body) → Stops (byteFault sh (byteAt d)) (endFault sh (byteAt d)) d (stopOf sh d)
 stop-first sh d = first-fault (byteFault sh (byteAt d)) (endFault sh (byteAt d)) d
 
-pub stop-halts : (sh : Shape) (d : Body) (r : Refusal) → stopOf sh d ≡ At r → Halts (placeOf r) r
+pub stop-halts : (sh : Shape) (d : Body) (r : Refusal) → stopOf sh d ≡ At r → Halts (stopPlace r) r
 stop-halts sh d r e = go (subst (Stops (byteFault sh (byteAt d)) (endFault sh (byteAt d)) d) e (stop-first sh d))
   where
-    by : {p : ℕ} → Halts p r → Halts (placeOf r) r
+    by : {p : ℕ} → Halts p r → Halts (stopPlace r) r
     by h = subst (λ (q : ℕ). Halts q r) (sym (halts-at h)) h
 
-    go : Stops (byteFault sh (byteAt d)) (endFault sh (byteAt d)) d (At r) → Halts (placeOf r) r
+    go : Stops (byteFault sh (byteAt d)) (endFault sh (byteAt d)) d (At r) → Halts (stopPlace r) r
     go (atByte i n h l f c b) = by (byte-halts sh (byteAt d) i _ _ r f)
     go (atEnd i h f c b) = by (end-halts sh (byteAt d) i _ _ r f)

@@ -16,7 +16,7 @@ use Rattle.refusals.specs.declared.Fault.the-variants.{Clear, At}
 use Rattle.refusals.specs.Order.{orElse, firstUpto}
 use Rattle.rules.specs.Tape.{Body, ends, blockOf, startOf, size, byteAt, bytesFault, blockFault, firstFault}
 use Rattle.rules.specs.Cuts.{Piece, portion, blockEnd, before, spelled}
-use Rattle.rules.specs.Outcome.{placeOf}
+use Rattle.rules.specs.Outcome.{stopPlace}
 use Rattle.rules.proofs.Uptos.{upto-same, first-first}
 use Rattle.rules.proofs.Tapes.{byte-in, last-block, size-last}
 
@@ -93,12 +93,12 @@ module _ {St S : Type 0} (step : St → ℕ → St) (emit : St → ℕ → List 
       pub byte-inv : (i s p : ℕ) → Inv i s p → byteFault i s p ≡ Clear → Inv i s (suc p)
       pub byte-off : (i s p : ℕ) (r : Refusal) → Inv i s p → byteFault i s p ≡ At r → step (stateAt i p) (byteAt d p) ≡ haltAt r i p
       pub byte-none : (i s p : ℕ) (r : Refusal) → Inv i s p → byteFault i s p ≡ At r → emit (stateAt i p) (byteAt d p) ≡ []
-      pub byte-place : (i s p : ℕ) (r : Refusal) → byteFault i s p ≡ At r → placeOf r ≡ p
+      pub byte-place : (i s p : ℕ) (r : Refusal) → byteFault i s p ≡ At r → stopPlace r ≡ p
       pub byte-still : (i s p : ℕ) (r : Refusal) → byteFault i s p ≡ At r → Still (haltAt r i p)
       pub end-on : (i s p : ℕ) → Inv i s p → endFault i s p ≡ Clear → endOf (stateAt i p) ≡ stateAt (suc i) p
       pub end-inv : (i s p : ℕ) → Inv i s p → endFault i s p ≡ Clear → Inv (suc i) p p
       pub end-off : (i s p : ℕ) (r : Refusal) → Inv i s p → endFault i s p ≡ At r → endOf (stateAt i p) ≡ haltAt r i p
-      pub end-place : (i s p : ℕ) (r : Refusal) → endFault i s p ≡ At r → placeOf r ≡ p
+      pub end-place : (i s p : ℕ) (r : Refusal) → endFault i s p ≡ At r → stopPlace r ≡ p
       pub end-still : (i s p : ℕ) (r : Refusal) → endFault i s p ≡ At r → Still (haltAt r i p)
 
     module _ (m : Follows) where
@@ -120,7 +120,7 @@ module _ {St S : Type 0} (step : St → ℕ → St) (emit : St → ℕ → List 
 
       data Fed (i s p n : ℕ) (c : Run St S) : Type 0 where
         went : firstUpto (from i s p) n ≡ Clear → c ≡ formAt i (p + n) → Inv i s (p + n) → Fed i s p n c
-        fell : (r : Refusal) → firstUpto (from i s p) n ≡ At r → c ≡ stopAt r i (placeOf r) → Still (haltAt r i (placeOf r)) → Fed i s p n c
+        fell : (r : Refusal) → firstUpto (from i s p) n ≡ At r → c ≡ stopAt r i (stopPlace r) → Still (haltAt r i (stopPlace r)) → Fed i s p n c
 
       fed : (bs : List ℕ) (i s p : ℕ) → Inv i s p → ((k : ℕ) → k < length bs → byteAt d (p + k) ≡ getD bs k 0) → Fed i s p (length bs) (feed (formAt i p) bs)
       unfolding upto
@@ -170,7 +170,7 @@ module _ {St S : Type 0} (step : St → ℕ → St) (emit : St → ℕ → List 
 
       pub data Ran (f : Fault) (c : Run St S) : Type 0 where
         went : f ≡ Clear → c ≡ formAt (ends d) (size d) → Inv (ends d) (startOf d (ends d)) (size d) → Ran f c
-        fell : (r : Refusal) (i : ℕ) → f ≡ At r → c ≡ stopAt r i (placeOf r) → Ran f c
+        fell : (r : Refusal) (i : ℕ) → f ≡ At r → c ≡ stopAt r i (stopPlace r) → Ran f c
 
       pub ran : (bs : List (List ℕ)) (k : ℕ) → drop k (d .blocks) ≡ bs → k + length bs ≡ ends d → Inv k (startOf d k) (startOf d k)
           → Ran (left k (length bs)) (uncut (formAt k (startOf d k)) bs (d .tail))
@@ -208,7 +208,7 @@ module _ {St S : Type 0} (step : St → ℕ → St) (emit : St → ℕ → List 
               → Ran (left k (suc (length bs))) (uncut (formAt k (startOf d k)) (b ∷ bs) (d .tail))
           go (fell r f c v) more =
               fell r k (left-first k (length bs) ∙ rw (here, f))
-              (on c ∙ then (both (v .closes) refl) ∙ stay-uncut (stopAt r k (placeOf r)) v bs (d .tail))
+              (on c ∙ then (both (v .closes) refl) ∙ stay-uncut (stopAt r k (stopPlace r)) v bs (d .tail))
           go (went f c g) more = by (endFault k (startOf d k) q) refl
             where
               by : (x : Fault) → endFault k (startOf d k) q ≡ x → Ran (left k (suc (length bs))) (uncut (formAt k (startOf d k)) (b ∷ bs) (d .tail))

@@ -18,7 +18,7 @@ use Rattle.refusals.specs.Table.{said}
 use Rattle.rules.specs.Tape.{Body, byteAt, size, firstFault}
 use Rattle.rules.specs.Scans.{Shape, twiOf, itbOf, timeOf, typeOf}
 use Rattle.rules.specs.Faults.{byteFault, endFault}
-use Rattle.rules.specs.Samples.{samplesBefore, numbersAt, offAt}
+use Rattle.rules.specs.Samples.{doneBefore, numbersAt, offAt}
 
 -- ---- of the first n scans
 module _ (sh : Shape) (byte : ℕ → ℕ) where
@@ -65,13 +65,13 @@ answered Clear t = report t
 answered (At r) t = refused r
 
 -- the place that a stop names
-abbrev pub placeOf : Refusal → ℕ
-placeOf r = getD (said r .values) 0 0
+abbrev pub stopPlace : Refusal → ℕ
+stopPlace r = getD (said r .values) 0 0
 
 -- how many of n bytes come before a stop
 abbrev pub bytesBefore : Fault → ℕ → ℕ
 bytesBefore Clear n = n
-bytesBefore (At r) n = placeOf r
+bytesBefore (At r) n = stopPlace r
 
 -- ---- of a whole body
 module _ (sh : Shape) (d : Body) where
@@ -81,11 +81,11 @@ module _ (sh : Shape) (d : Body) where
 
   -- how many samples are "completed before a stop", or the body's end
   abbrev pub doneOf : ℕ
-  doneOf = samplesBefore sh (byteAt d) (bytesBefore stopOf (size d))
+  doneOf = doneBefore sh (byteAt d) (bytesBefore stopOf (size d))
 
   -- those samples, M then X
-  abbrev pub samplesOf : List ℤ
-  samplesOf = listUpto (numbersAt sh (byteAt d)) doneOf
+  abbrev pub numbersOf : List ℤ
+  numbersOf = listUpto (numbersAt sh (byteAt d)) doneOf
 
   -- whole scans
   abbrev pub scansOf : ℕ

@@ -16,26 +16,26 @@ use Rattle.rules.specs.Scans.{Shape}
 
 module _ (sh : Shape) (byte : ℕ → ℕ) where
   -- the place in its scan of the group of sample k, and of its word, by the code's row
-  abbrev pub groupIn : ℕ → ℕ
-  groupIn = groupPlace (perOf (sh .code)) (leadOf (sh .code)) (wordBytesOf (sh .code))
+  abbrev pub groupBegins : ℕ → ℕ
+  groupBegins = groupPlace (perOf (sh .code)) (leadOf (sh .code)) (wordBytesOf (sh .code))
 
-  abbrev pub wordIn : ℕ → ℕ
-  wordIn = wordPlace (perOf (sh .code)) (leadOf (sh .code)) (wordBytesOf (sh .code))
+  abbrev pub wordBegins : ℕ → ℕ
+  wordBegins = wordPlace (perOf (sh .code)) (leadOf (sh .code)) (wordBytesOf (sh .code))
 
   -- 1 where the last byte of sample k is among the first r of its scan
   abbrev pub doneIn : ℕ → ℕ → ℕ
-  doneIn r k = pick (leb (wordIn k + wordBytesOf (sh .code)) r) 1 0
+  doneIn r k = pick (leb (wordBegins k + wordBytesOf (sh .code)) r) 1 0
 
   -- samples completed before place p: of the scans before, and of the scan that p is in
-  unfoldable pub samplesBefore : ℕ → ℕ
-  samplesBefore p = p / sh .scan * sh .samples + sumUpto (doneIn (p % sh .scan)) (sh .samples)
+  unfoldable pub doneBefore : ℕ → ℕ
+  doneBefore p = p / sh .scan * sh .samples + sumUpto (doneIn (p % sh .scan)) (sh .samples)
 
   -- sample n: the exponents of its group, and its word
   abbrev pub leadAt : ℕ → ℕ
-  leadAt n = written 256 byte (n / sh .samples * sh .scan + groupIn (n % sh .samples)) (leadOf (sh .code))
+  leadAt n = written 256 byte (n / sh .samples * sh .scan + groupBegins (n % sh .samples)) (leadOf (sh .code))
 
   abbrev pub wordAt : ℕ → ℕ
-  wordAt n = written 256 byte (n / sh .samples * sh .scan + wordIn (n % sh .samples)) (wordBytesOf (sh .code))
+  wordAt n = written 256 byte (n / sh .samples * sh .scan + wordBegins (n % sh .samples)) (wordBytesOf (sh .code))
 
   -- "four c of 4 bits", the first highest: its own c; 0 where none stand apart
   abbrev pub exponentAt : ℕ → ℕ

@@ -29,7 +29,7 @@ both f k = f k .m ∷ f k .x ∷ []
 unfoldable pub numbers : (ℕ → Value) → ℕ → List ℤ
 numbers f n = listUpto (both f) n
 
--- a list with another over its front
+-- a list with another over its front: "Output past the samples written is untouched"
 unfoldable pub over : List ℤ → List ℤ → List ℤ
 over w out = w ++ drop (length w) out
 

@@ -78,7 +78,7 @@ fn power(base: u32, bias: u32, n: u32, e: u32) -> i32
     basis::difference(base * e, base * bias + n)
 }
 
-// The faults: straight lines, since a branch on a sample's bits is foretold badly.
+// The faults: straight lines, since a branch on a sample's bits is predicted badly.
 fn last_bit(last: u32) -> bool
     ensures { λ r. ⌜ r ≡ lastBit last ⌝ }
 {
@@ -303,6 +303,7 @@ pub fn value15(c: u32, word: u16) -> Value
     ))
 }
 
+// A word of 0024.
 pub fn value24(word: u16) -> Value
     ensures { λ r. ⌜ r ≡ valueOf 0x0024 0 word ⌝ }
 {
@@ -321,6 +322,7 @@ pub fn value24(word: u16) -> Value
     ))
 }
 
+// A word of 0044.
 pub fn value44(word: u16) -> Value
     ensures { λ r. ⌜ r ≡ valueOf 0x0044 0 word ⌝ }
 {
@@ -339,6 +341,7 @@ pub fn value44(word: u16) -> Value
     ))
 }
 
+// A word of 0048.
 pub fn value48(word: u32) -> Value
     ensures { λ r. ⌜ r ≡ valueOf 0x0048 0 word ⌝ }
 {

@@ -20,16 +20,16 @@ returns c = rw (← c .before .before .before .header-fault .ensures, c .before 
 enum-told : tie.Need-enum-told
 enum-told c = search needs
 
-is-sample-requires : tie.Need-is-sample-requires
-is-sample-requires c κs = sym (c .before .before .header-fault .ensures) ∙ c .enum-told .given .1
+has-place-requires : tie.Need-has-place-requires
+has-place-requires c κs = sym (c .before .before .header-fault .ensures) ∙ c .enum-told .given .1
 
 returns-2 : tie.Need-returns-2
 unfolding indexFault pick
-returns-2 c = rw (← c .before .before .before .before .header-fault .ensures, c .before .before .enum-told .given .1, ← c .before .is-sample .ensures, c .if1 .taken)
+returns-2 c = rw (← c .before .before .before .before .header-fault .ensures, c .before .before .enum-told .given .1, ← c .before .has-place .ensures, c .if1 .taken)
 
 returns-3 : tie.Need-returns-3
 unfolding indexFault pick
-returns-3 c = rw (← c .before .before .before .before .header-fault .ensures, c .before .before .enum-told .given .1, ← c .before .is-sample .ensures, c .if1 .left)
+returns-3 c = rw (← c .before .before .before .before .header-fault .ensures, c .before .before .enum-told .given .1, ← c .before .has-place .ensures, c .if1 .left)
 
 pub index-fault-spec : {M : Type 1} → statement M
 index-fault-spec =
@@ -39,6 +39,6 @@ index-fault-spec =
     enum-known-f
     returns
     enum-told
-    is-sample-requires
+    has-place-requires
     returns-2
     returns-3)

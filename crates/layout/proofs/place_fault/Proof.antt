@@ -20,16 +20,16 @@ returns c = rw (← c .before .before .before .header-fault .ensures, c .before 
 enum-told : tie.Need-enum-told
 enum-told c = search needs
 
-is-place-requires : tie.Need-is-place-requires
-is-place-requires c κs = sym (c .before .before .header-fault .ensures) ∙ c .enum-told .given .1
+has-sample-requires : tie.Need-has-sample-requires
+has-sample-requires c κs = sym (c .before .before .header-fault .ensures) ∙ c .enum-told .given .1
 
 returns-2 : tie.Need-returns-2
 unfolding placeFault pick
-returns-2 c = rw (← c .before .before .before .before .header-fault .ensures, c .before .before .enum-told .given .1, ← c .before .is-place .ensures, c .if1 .taken)
+returns-2 c = rw (← c .before .before .before .before .header-fault .ensures, c .before .before .enum-told .given .1, ← c .before .has-sample .ensures, c .if1 .taken)
 
 returns-3 : tie.Need-returns-3
 unfolding placeFault pick
-returns-3 c = rw (← c .before .before .before .before .header-fault .ensures, c .before .before .enum-told .given .1, ← c .before .is-place .ensures, c .if1 .left)
+returns-3 c = rw (← c .before .before .before .before .header-fault .ensures, c .before .before .enum-told .given .1, ← c .before .has-sample .ensures, c .if1 .left)
 
 pub place-fault-spec : {M : Type 1} → statement M
 place-fault-spec =
@@ -39,6 +39,6 @@ place-fault-spec =
     enum-known-f
     returns
     enum-told
-    is-place-requires
+    has-sample-requires
     returns-2
     returns-3)

@@ -5,12 +5,12 @@ use mathlib.Core.Path.{_≡_, sym, _∙_}
 use borrow.Author.Needs.{needs}
 use Rattle.refusals.specs.declared.Fault.the-variants.{Clear}
 use Rattle.parts.specs.Times.{timeAnswer}
-use Rattle.parts.specs.Skews.{byteFault}
+use Rattle.parts.specs.Skews.{skewByteFault}
 use Rattle.parts.proofs.Fits.{time-clear}
 use Rattle.parts.proofs.sample_time.Statement.{statement}
 use Rattle.parts.proofs.sample_time.Tie as tie
 
-facts : (c : tie.After-enum-told) → (byteFault (c .before .before .before .before .before .args .block .now) (c .before .before .before .before .before .args .sheet .now) (c .before .before .before .before .before .args .scan-type) (c .before .before .before .before .before .args .k) ≡ Clear) × (c .before .before .before .before .before .args .t < 2 ^ 24)
+facts : (c : tie.After-enum-told) → (skewByteFault (c .before .before .before .before .before .args .block .now) (c .before .before .before .before .before .args .sheet .now) (c .before .before .before .before .before .args .scan-type) (c .before .before .before .before .before .args .k) ≡ Clear) × (c .before .before .before .before .before .args .t < 2 ^ 24)
 facts c = time-clear _ _ _ _ _ (sym (c .before .before .time-fault .ensures) ∙ c .enum-told .given .1)
 
 time-fault-requires : tie.Need-time-fault-requires

@@ -1,4 +1,4 @@
--- `layout::is_sample` meets its contract: the set is looked for first, so that its numbers fit a byte.
+-- `layout::has_place` meets its contract: the set is looked for first, so that its numbers fit a byte.
 -- Assumes nothing.
 use Prim.Native.Nat.{_≤_}
 use mathlib.Core.Path.{sym, _∙_}
@@ -7,16 +7,16 @@ use borrow.Author.Needs.{needs}
 use borrow.Author.Tests.{not-false, not-true}
 use Rattle.basis.specs.Choice.{_and_}
 use Rattle.general.specs.General.{within}
-use Rattle.layout.specs.Indexes.{isSample}
+use Rattle.layout.specs.Indexes.{hasPlace}
 use Rattle.layout.proofs.Facts.{set-small}
-use Rattle.layout.proofs.is_sample.Statement.{statement}
-use Rattle.layout.proofs.is_sample.Tie as tie
+use Rattle.layout.proofs.has_place.Statement.{statement}
+use Rattle.layout.proofs.has_place.Tie as tie
 
 is-set-requires : tie.Need-is-set-requires
 is-set-requires c κs = search needs
 
 returns : tie.Need-returns
-unfolding isSample _and_
+unfolding hasPlace _and_
 returns c = rw (← c .before .is-set .ensures, not-true (c .before .is-set .result) (c .if1 .taken))
 
 -- the set is there
@@ -48,11 +48,11 @@ cast-result : tie.Need-cast-result
 cast-result c = search needs
 
 returns-2 : tie.Need-returns-2
-unfolding isSample _and_ within
+unfolding hasPlace _and_ within
 returns-2 c = rw (← c .before .before .before .is-set .ensures, not-false (c .before .before .before .is-set .result) (c .before .before .if1 .left), ← c .before .channels .ensures, ← c .subscans .ensures)
 
-pub is-sample-spec : {M : Type 1} → statement M
-is-sample-spec =
+pub has-place-spec : {M : Type 1} → statement M
+has-place-spec =
     tie.close
     (tie.spec
     is-set-requires

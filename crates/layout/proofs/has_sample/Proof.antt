@@ -1,4 +1,4 @@
--- `layout::is_place` meets its contract.
+-- `layout::has_sample` meets its contract.
 -- Assumes nothing.
 use Prim.Native.Nat.{_≤_}
 use mathlib.Core.Path.{sym, _∙_}
@@ -7,10 +7,10 @@ use borrow.Author.Tests.{not-false, not-true}
 use Rattle.basis.specs.Choice.{_and_}
 use borrow.Author.Needs.{needs}
 use Rattle.sets.specs.Samples.{samplesOf}
-use Rattle.layout.specs.Indexes.{isPlace}
+use Rattle.layout.specs.Indexes.{hasSample}
 use Rattle.layout.proofs.Facts.{scan-small}
-use Rattle.layout.proofs.is_place.Statement.{statement}
-use Rattle.layout.proofs.is_place.Tie as tie
+use Rattle.layout.proofs.has_sample.Statement.{statement}
+use Rattle.layout.proofs.has_sample.Tie as tie
 
 small : (c : tie.Else1) → (1 ≤ c .before .before .before .args .t) × (c .before .before .before .args .t ≤ 99)
 small c = scan-small _ _ (c .before .before .before .pre) (sym (c .before .is-scan-type .ensures) ∙ not-false _ (c .if1 .left))
@@ -19,7 +19,7 @@ is-scan-type-requires : tie.Need-is-scan-type-requires
 is-scan-type-requires c κs = search needs
 
 returns : tie.Need-returns
-unfolding isPlace _and_
+unfolding hasSample _and_
 returns c = rw (← c .before .is-scan-type .ensures, not-true (c .before .is-scan-type .result) (c .if1 .taken))
 
 sub-samples-before : tie.Need-sub-samples-before
@@ -35,11 +35,11 @@ samples-before-requires : tie.Need-samples-before-requires
 samples-before-requires c κs = search needs
 
 returns-2 : tie.Need-returns-2
-unfolding isPlace _and_ samplesOf
+unfolding hasSample _and_ samplesOf
 returns-2 c = rw (← c .before .before .before .is-scan-type .ensures, not-false (c .before .before .before .is-scan-type .result) (c .before .before .if1 .left), ← c .before .pair-at .ensures .0, ← c .samples-before .ensures .0)
 
-pub is-place-spec : {M : Type 1} → statement M
-is-place-spec =
+pub has-sample-spec : {M : Type 1} → statement M
+has-sample-spec =
     tie.close
     (tie.spec
     is-scan-type-requires
