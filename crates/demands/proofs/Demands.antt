@@ -1,53 +1,71 @@
--- The three demands hold.
+-- The three demands hold, and the lister's.
 -- Assumes nothing.
-use Prim.Native.Nat.{ℕ, _+_, _-_, _/_, _^_, _<_}
+use Prim.Native.Nat.{ℕ, _+_, _-_, _*_, _/_, _%_, _^_, _<_}
 use mathlib.Core.Path.{_≡_, refl, subst}
 use mathlib.Core.Bool.{true, false, not}
 use mathlib.Core.List.{List, [], _∷_, append-nil}
 use native.Mathlib.Nat.{zero-add}
 use native.Mathlib.Omega.{arith}
+use lib.Dec.{ltb}
 use lib.IntN.{ℤ}
 use lib.ListN.{length}
-use borrow.Author.Tests.{lt-ltb, ne-eqb, eq-eqb}
+use borrow.Author.Tests.{lt-ltb, ltb-true, ne-eqb, eq-eqb}
 use Rattle.basis.specs.Choice.{pick}
 use Rattle.basis.proofs.FieldLaws.{last-back, fraction-back, exponent-back, sign-back, rejoined}
 use Rattle.values.proofs.Laws.{same-refl, same-sym, same-trans, same-shift, same-tested, less-irrefl, less-trans, same-less, less-level, total}
 use Rattle.codes.specs.declared.Row.{Row}
 use Rattle.codes.specs.Codes.{Fit}
 use Rattle.codes.proofs.Rows.{fit}
-use Rattle.refusals.specs.declared.Refusal.the-variants.{Index, Room}
+use Rattle.refusals.specs.declared.Refusal.the-variants.{Index, Sheet}
 use Rattle.refusals.specs.declared.Fault.{Fault}
 use Rattle.refusals.specs.declared.Fault.the-variants.{Clear, At}
 use Rattle.refusals.specs.Order.{when, orElse}
+use Rattle.general.specs.General.{intervalOf}
+use Rattle.general.proofs.Clears.{both-clear}
 use Rattle.sets.specs.declared.ChannelSet.{ChannelSet}
+use Rattle.sets.specs.ChannelSets.{channelSetOf}
 use Rattle.header.specs.declared.Header.{Header}
 use Rattle.header.specs.declared.Answer.the-variants as answer
 use Rattle.header.specs.declared.Described.the-variants as described
 use Rattle.header.specs.Faults.{headerFault}
 use Rattle.header.specs.Answers.{headerOf, headerAnswer, answerAfter, isSet, descriptorAnswer, describedAfter}
+use Rattle.layout.specs.Indexes.{hasSample, placeFault}
+use Rattle.layout.proofs.Facts.{kept as was}
 use Rattle.layout.proofs.Inverses.{inverse}
+use Rattle.layout.proofs.SetLaws.{channel-is, subscan-is}
 use Rattle.words.specs.Words.{spareOf}
 use Rattle.words.proofs.Parts.{taken}
-use Rattle.header.proofs.Accepted.{descriptor-inside, subscans-small}
+use Rattle.header.proofs.Accepted.{descriptor-inside, subscans-small, skew-inside}
 use Rattle.layout.proofs.WordLaws.{words-apart, word-inside, words-fill}
 use Rattle.parts.proofs.Fits.{byte-of-part}
 use Rattle.body.proofs.Cuts.{cut-state, cut-wrote}
 use Rattle.body.proofs.Opens.{open-unfit}
 use Rattle.body.proofs.Stops.{stop-said}
+use Rattle.parts.specs.declared.Skewed.the-variants.{Skew}
 use Rattle.parts.specs.declared.Timed.the-variants.{Time}
-use Rattle.parts.specs.Times.{timeFault, timeAnswer, timeAfter}
+use Rattle.parts.specs.Skews.{sheetHolds, skewByte, skewByteFault, skewAfter, skewAnswer}
+use Rattle.parts.specs.Times.{timeBy, timeFault, timeAnswer, timeAfter}
+use Rattle.rules.specs.Tape.{Body, byteAt}
+use Rattle.rules.specs.Scans.{Shape}
+use Rattle.rules.specs.Samples.{numbersAt}
+use Rattle.rules.specs.Outcome.{doneOf}
 use Rattle.rules.proofs.Laws.{stop-first}
 use Rattle.scan.specs.declared.State.{State}
 use Rattle.scan.specs.Fit.{fitb}
-use Rattle.body.specs.Calls.{portion, taken as takenPortion, written, kept, answered, unchanged}
+use Rattle.body.specs.Calls.{portion, taken as takenPortion, written, kept, answered}
 use Rattle.body.specs.Calls as calls
 use Rattle.body.specs.Ends.{blockEnd, ended, close, finish, refused}
 use Rattle.agree.specs.Calls.{Call, put, end, readOn}
 use Rattle.agree.proofs.Agreement.{agreement, turned-away}
-use Rattle.demands.specs.Demand1.{Unmoved, Demand1, stands}
-use Rattle.demands.specs.Demand2.{OwnBytes, Compared, Cut, Demand2}
-use Rattle.demands.specs.Demand3.{Demand3}
+use Rattle.framing.proofs.Framed.{framed}
+use Rattle.lister.proofs.Listed.{listed}
+use Rattle.demands.specs.Demand1.{Unmoved, NoTrace, Demand1, stands}
+use Rattle.demands.specs.Demand2.{OwnBytes, Compared, Cut, Askable, Demand2}
+use Rattle.demands.specs.Demand3.{InOrder, Demand3}
+use Rattle.demands.specs.Reel.{Reel}
 use Rattle.demands.proofs.Uniques.{unique}
+use Rattle.demands.proofs.Helds.{unique-held}
+use Rattle.demands.proofs.Pairs.{pairs-length, pair-at}
 use Rattle.demands.proofs.Figures.{all-figures}
 
 -- ---- 1
@@ -77,13 +95,17 @@ unmoved : (s : State) → fitb s ≡ false → Unmoved s
 unfolding portion written blockEnd close pick
 unmoved s f = record { portions = λ bs room. rw f; written = λ bs room. rw f; blockEnds = rw f; closes = rw f }
 
-no-room : (s : State) (bs : List ℕ) (room : ℕ) → fitb s ≡ true → s .stop ≡ 0 → room / 2 < length bs → (portion s bs room ≡ unchanged s Room) × (written s bs room ≡ [])
+no-room : (s : State) (bs : List ℕ) (room : ℕ) → fitb s ≡ true → s .stop ≡ 0 → room / 2 < length bs → NoTrace s bs room
 unfolding portion takenPortion written kept pick
-no-room s bs room f z l = (rw (f, eq-eqb (s .stop) 0 z, lt-ltb (room / 2) (length bs) l), rw (f, eq-eqb (s .stop) 0 z, lt-ltb (room / 2) (length bs) l))
+no-room s bs room f z l = record {
+  answer = rw (f, eq-eqb (s .stop) 0 z, lt-ltb (room / 2) (length bs) l);
+  written = rw (f, eq-eqb (s .stop) 0 z, lt-ltb (room / 2) (length bs) l);
+}
 
 pub demand1 : Demand1
 demand1 = record {
   one = unique;
+  held = unique-held;
   stopped = λ s f n. record { portions = portions s f n; written = nothing s f n; blockEnds = ends s f n; closes = closes s f n; forever = forever s f n };
   unfit = unmoved;
   unopened = turned-away;
@@ -98,13 +120,49 @@ header-given : (f : Fault) (a h : Header) → answerAfter f a ≡ answer.Accepte
 header-given Clear a h e = (refl, cc)
 header-given (At r) a h e = let z : _≡_ {A = ℕ} 0 1 = cc in absurd (omega arith)
 
-set-given : (f : Fault) (a d : ChannelSet) → describedAfter f a ≡ described.Set d → d ≡ a
-set-given Clear a d e = cc
+set-given : (f : Fault) (a d : ChannelSet) → describedAfter f a ≡ described.Set d → (f ≡ Clear) × (d ≡ a)
+set-given Clear a d e = (refl, cc)
 set-given (At r) a d e = let z : _≡_ {A = ℕ} 0 1 = cc in absurd (omega arith)
 
-time-given : (f : Fault) (a x : ℕ) → timeAfter f a ≡ Time x → x ≡ a
-time-given Clear a x e = cc
+skew-given : (f : Fault) (a x : ℕ) → skewAfter f a ≡ Skew x → (f ≡ Clear) × (x ≡ a)
+skew-given Clear a x e = (refl, cc)
+skew-given (At r) a x e = let z : _≡_ {A = ℕ} 0 1 = cc in absurd (omega arith)
+
+time-given : (f : Fault) (a x : ℕ) → timeAfter f a ≡ Time x → (f ≡ Clear) × (x ≡ a)
+time-given Clear a x e = (refl, cc)
 time-given (At r) a x e = let z : _≡_ {A = ℕ} 0 1 = cc in absurd (omega arith)
+
+-- what a question that is not refused was asked of
+set-asked : (b : List ℕ) (t s : ℕ) (d : ChannelSet) → descriptorAnswer b t s ≡ described.Set d → (headerFault b ≡ Clear) × (isSet b t s ≡ true) × (d ≡ channelSetOf b (t - 1) (s - 1))
+unfolding descriptorAnswer
+set-asked b t s d e =
+    let g = set-given (orElse (headerFault b) (when (not (isSet b t s)) Index)) (channelSetOf b (t - 1) (s - 1)) d e in
+    let p = both-clear (headerFault b) (when (not (isSet b t s)) Index) (g .0) in
+    (p .0, was (isSet b t s) Index (p .1), g .1)
+
+askable : (b sheet : List ℕ) (t k : ℕ) → placeFault b t k ≡ Clear → when (not (sheetHolds b sheet)) Sheet ≡ Clear → Askable b sheet t k
+unfolding placeFault
+askable b sheet t k e h =
+    let p = both-clear (headerFault b) (when (not (hasSample b t k)) Index) e in
+    record { accepted = p .0; there = was (hasSample b t k) Index (p .1); sheeted = was (sheetHolds b sheet) Sheet h }
+
+skew-asked : (b sheet : List ℕ) (t k SS : ℕ) → skewAnswer b sheet t k ≡ Skew SS → Askable b sheet t k × (SS ≡ skewByte b sheet (t - 1) k)
+unfolding skewAnswer skewByteFault
+skew-asked b sheet t k SS e =
+    let g = skew-given (orElse (placeFault b t k) (when (not (sheetHolds b sheet)) Sheet)) (skewByte b sheet (t - 1) k) SS e in
+    let p = both-clear (placeFault b t k) (when (not (sheetHolds b sheet)) Sheet) (g .0) in
+    (askable b sheet t k (p .0) (p .1), g .1)
+
+time-asked : (b sheet : List ℕ) (t k T time : ℕ) → timeAnswer b sheet t k T ≡ Time time
+    → Askable b sheet t k × (T < 2 ^ 24) × (time ≡ timeBy T (skewByte b sheet (t - 1) k) (intervalOf b))
+unfolding timeAnswer timeFault
+time-asked b sheet t k T time e =
+    let late : Fault = when (not (ltb T (2 ^ 24))) Index in
+    let other : Fault = when (not (sheetHolds b sheet)) Sheet in
+    let g = time-given (orElse (placeFault b t k) (orElse late other)) (timeBy T (skewByte b sheet (t - 1) k) (intervalOf b)) time e in
+    let p = both-clear (placeFault b t k) (orElse late other) (g .0) in
+    let q = both-clear late other (p .1) in
+    (askable b sheet t k (p .0) (q .1), ltb-true T (2 ^ 24) (was (ltb T (2 ^ 24)) Index (q .0)), g .1)
 
 -- a row's own widths add up to its word's
 widths : (r : Row) → Fit r → r .width - r .apart ≡ 1 + (spareOf r + r .fraction + (r .exponent - r .apart))
@@ -131,7 +189,9 @@ own-bytes b e =
       apart = words-apart b e;
       inside = word-inside b e;
       fill = words-fill b e;
-      descriptors = λ t s h g. (descriptor-inside b e t s h g, subscans-small b e t s h g);
+      descriptors = descriptor-inside b e;
+      subscans = subscans-small b e;
+      skews = skew-inside b e;
     }
 
 compared : Compared
@@ -149,25 +209,50 @@ compared = record {
 }
 
 pub demand2 : Demand2
-unfolding headerAnswer descriptorAnswer timeAnswer
+unfolding headerAnswer descriptorAnswer placeFault skewByteFault skewAnswer timeFault timeAnswer pick
 demand2 = record {
   accepts = λ b e. rw e;
   fields = λ b h e. header-given (headerFault b) (headerOf b) h e;
-  sets = λ b t s d e. set-given (orElse (headerFault b) (when (not (isSet b t s)) Index)) _ d e;
+  described = λ b t s e i. rw (e, i);
+  sets = set-asked;
   places = inverse;
   samples = λ code c word r e low hc hw. taken code r e c word low hc hw;
   cut = λ code r e. cut-in r (fit code r e);
   own = own-bytes;
   values = compared;
   skews = byte-of-part;
-  times = λ b sheet t k T time e. time-given (timeFault b sheet t k T) _ time e;
+  skewed = λ b sheet t k a. rw (a .accepted, a .there, a .sheeted);
+  skewBytes = skew-asked;
+  timed = λ b sheet t k T a l. rw (a .accepted, a .there, lt-ltb T (2 ^ 24) l, a .sheeted);
+  times = time-asked;
   starred = all-figures;
 }
 
 -- ---- 3
+-- sample j x S/S + k is sample k of scan j
+scan-is : (sh : Shape) (j k : ℕ) → k < sh .samples → (j * sh .samples + k) / sh .samples ≡ j
+scan-is sh j k h = subscan-is (sh .samples) (j + 1) j k h (omega arith)
+
+index-is : (sh : Shape) (j k : ℕ) → k < sh .samples → (j * sh .samples + k) % sh .samples ≡ k
+index-is sh j k h = channel-is (sh .samples) (j + 1) j k h (omega arith)
+
+in-order : (sh : Shape) (d : Body) → InOrder sh d
+unfolding numbersAt
+in-order sh d = record {
+  count = pairs-length (numbersAt sh (byteAt d)) (λ k. refl) (doneOf sh d);
+  sample = λ n h. pair-at (numbersAt sh (byteAt d)) (λ k. refl) n (doneOf sh d) h;
+  word = λ j k h. rw (scan-is sh j k h, index-is sh j k h);
+  lead = λ j k h. rw (scan-is sh j k h, index-is sh j k h);
+}
+
 pub demand3 : Demand3
 demand3 = record {
   agrees = agreement;
-  cuts = λ s a b f m n k ha hb h. (cut-state s a b f m n k ha hb h, cut-wrote s a b f m n k ha hb h);
+  cuts = λ s a b f m n k ha hb h. record { state = cut-state s a b f m n k ha hb h; samples = cut-wrote s a b f m n k ha hb h };
+  order = in-order;
   first = stop-first;
 }
+
+-- ---- the lister
+pub reel : Reel
+reel = record { framed = framed; listed = listed }

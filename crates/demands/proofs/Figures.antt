@@ -15,6 +15,7 @@ use Rattle.block.specs.Bytes.{isPair, pairOf, packedOf, byte, upper, lower, pai
 use Rattle.general.specs.General.{generalDigits, within, timeInRange, isInterval, countsInRange, headerLength, generalFault}
 use Rattle.sets.specs.Descriptors.{placeOf, descriptorAt, descriptorHolds, fourHolds, setFault, scanTypeFault, descriptorsFault}
 use Rattle.sets.specs.Samples.{setSamples, samplesOf}
+use Rattle.sets.specs.ChannelSets.{quarters}
 use Rattle.header.specs.Faults.{sizeHolds, sizeFault, sizesFault, skewHolds, headerFault}
 use Rattle.layout.specs.Indexes.{passed, setAt, setOf, hasSample, spotOf, placeFault, placeAnswer}
 use Rattle.parts.specs.Times.{timeBy}
@@ -35,5 +36,5 @@ unfolding pick upto written isPair pairOf byte upper lower pair decimal threeDig
 past = rw (accepted .0)
 
 pub all-figures : All figures
-unfolding figures times brought lessTest sameTest pick field table findIn rowOf fractionOf powerOf lastBit negativeZero allOnes signedZero notJustified offRule sampleIn wordIn wordOf isPair pairOf packedOf timeBy
-all-figures = (refl, (refl, (refl, (refl, (refl, (refl, (refl, (refl, (refl, (same-told tt, (refl, (refl, (refl, (refl, (refl, (accepted, (placed, (past, tt))))))))))))))))))
+unfolding figures times brought lessTest sameTest pick field table findIn rowOf fractionOf powerOf lastBit negativeZero allOnes signedZero notJustified offRule sampleIn wordIn wordOf isPair pairOf packedOf quarters timeBy
+all-figures = (refl, (refl, (refl, (refl, (refl, (refl, (refl, (refl, (refl, (refl, (refl, (refl, (refl, (same-told tt, (refl, (refl, (refl, (refl, (refl, (accepted, (placed, (past, tt))))))))))))))))))))))

@@ -1,4 +1,5 @@
 pub mod Uniques
 pub mod Helds
+pub mod Pairs
 pub mod Figures
 pub mod Demands

@@ -22,6 +22,7 @@ use Rattle.body.specs.Open.{opened}
 use Rattle.agree.specs.Calls.{Call, readOn}
 use Rattle.agree.specs.Agreement.{TurnedAway}
 use Rattle.demands.specs.Unique.{Unique}
+use Rattle.demands.specs.Held.{UniqueHeld}
 
 -- a state as it is, with a refusal from before and no sample written
 abbrev pub stands : State → Refusal → Gave
@@ -42,9 +43,16 @@ pub record Unmoved (s : State) : Type 0 where
   pub blockEnds : ends.blockEnd s ≡ calls.unchanged s refusal.State
   pub closes : ends.close s ≡ ends.refused refusal.State
 
-pub record Demand1 : Type 0 where
-  -- every contract leaves one answer, refusals included, and one content of what is lent
+-- "13 .. changes nothing and stops nothing": a portion that the output has no room for leaves no trace
+pub record NoTrace (s : State) (bs : List ℕ) (room : ℕ) : Type 0 where
+  pub answer : calls.portion s bs room ≡ calls.unchanged s refusal.Room
+  pub written : calls.written s bs room ≡ []
+
+pub record Demand1 : Type 2 where
+  -- "the contract leaves one possible answer and one possible content of each lent slice", refusals included
   pub one : Unique
+  -- so do the contracts of the functions over a header that is carried with its bytes, which are read at every model of the logic
+  pub held : UniqueHeld
   -- a body that has stopped stays so
   pub stopped : (s : State) → fitb s ≡ true → (s .stop ≡ 0 → ⊥) → SameStop s (calls.stopOf (s .stop) (s .stopat))
   -- an unfit state, such as that of a refused opening, is refused by every call
@@ -53,5 +61,5 @@ pub record Demand1 : Type 0 where
   pub shut : (b : List ℕ) (r : Refusal) → headerAnswer b ≡ Refused r → fitb (opened b .state) ≡ false
   -- a stop that a fit state keeps is told by its row's number, with its place
   pub told : (n place : ℕ) → stopb n ≡ true → (n ≡ 0 → ⊥) → said (calls.stopOf n place) ≡ record { number = n; values = place ∷ [] }
-  -- a portion that the output has no room for leaves no trace
-  pub room : (s : State) (bs : List ℕ) (room : ℕ) → fitb s ≡ true → s .stop ≡ 0 → room / 2 < length bs → (calls.portion s bs room ≡ calls.unchanged s refusal.Room) × (calls.written s bs room ≡ [])
+  -- "A portion needs twice its length in output numbers"
+  pub room : (s : State) (bs : List ℕ) (room : ℕ) → fitb s ≡ true → s .stop ≡ 0 → room / 2 < length bs → NoTrace s bs room

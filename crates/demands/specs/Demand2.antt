@@ -4,6 +4,7 @@
 use Prim.Native.Nat.{ℕ, _+_, _-_, _^_, _≤_, _<_}
 use mathlib.Core.Path.{_≡_}
 use mathlib.Core.Logic.{_⊎_}
+use mathlib.Core.Bool.{true}
 use mathlib.Core.List.{List}
 use lib.Dec.{T}
 use lib.IntN.{ℤ, pos, _+ℤ_}
@@ -20,17 +21,19 @@ use Rattle.sets.specs.declared.ChannelSet.{ChannelSet}
 use Rattle.sets.specs.ChannelSets.{channelSetOf}
 use Rattle.sets.specs.Descriptors.{placeOf}
 use Rattle.sets.specs.Samples.{subscansOf, samplesOf}
-use Rattle.general.specs.General.{codeOf, bytesPerScan, intervalOf, scanTypes, channelSets}
+use Rattle.general.specs.General.{codeOf, bytesPerScan, intervalOf, scanTypes, channelSets, skewFields}
 use Rattle.header.specs.declared.Header.{Header}
 use Rattle.header.specs.declared.Answer.the-variants.{Accepted}
 use Rattle.header.specs.declared.Described.the-variants.{Set}
 use Rattle.header.specs.Faults.{headerFault}
-use Rattle.header.specs.Answers.{headerOf, headerAnswer, descriptorAnswer}
+use Rattle.header.specs.Answers.{headerOf, headerAnswer, isSet, descriptorAnswer}
+use Rattle.layout.specs.Indexes.{hasSample}
 use Rattle.layout.specs.Inverse.{Inverse}
 use Rattle.layout.specs.Places.{wordPlace}
+use Rattle.parts.specs.declared.Skewed.the-variants.{Skew}
 use Rattle.parts.specs.declared.Timed.the-variants.{Time}
 use Rattle.parts.specs.Slices.{slice}
-use Rattle.parts.specs.Skews.{skewByte, skewOf}
+use Rattle.parts.specs.Skews.{skewByte, skewOf, sheetHolds, skewAnswer}
 use Rattle.parts.specs.Times.{timeBy, timeAnswer}
 use Rattle.demands.specs.Figures.{All, figures}
 
@@ -45,12 +48,17 @@ ofFields r s e q last = joined (r .exponent - r .apart) (r .fraction) (spareOf r
 abbrev Has : Row → ℕ → ℕ → ℕ → ℕ → ℕ → Type 0
 Has r word s e q last = (signIn r word ≡ s) × (exponentIn r 0 word ≡ e) × (fractionIn r word ≡ q) × (lastIn r word ≡ last)
 
--- the word of sample k lies at its own bytes of the scan, one after another and to the scan's end; so do descriptors and skew bytes in the block
+-- "B = 8 + S/S x bytes per sample": the word of sample k lies at its own bytes of the scan, one after another and to the scan's end;
+-- and what is read of a scan type in the header block lies in the block
 pub record OwnBytes (b : List ℕ) : Type 0 where
   pub apart : (j k : ℕ) → j < k → wordAt b j + wordBytesOf (codeOf b) ≤ wordAt b k
   pub inside : (t : ℕ) → t < scanTypes b → (k : ℕ) → k < samplesOf b t → wordAt b k + wordBytesOf (codeOf b) ≤ bytesPerScan b
   pub fill : (t : ℕ) → t < scanTypes b → 0 < samplesOf b t → wordAt b (samplesOf b t - 1) + wordBytesOf (codeOf b) ≡ bytesPerScan b
-  pub descriptors : (t s : ℕ) → t < scanTypes b → s < channelSets b → (placeOf b t s + 32 ≤ length b) × (subscansOf b t s ≤ 512)
+  pub descriptors : (t s : ℕ) → t < scanTypes b → s < channelSets b → placeOf b t s + 32 ≤ length b
+  -- its subscans are 2^(S/C), and S/C is at most 9
+  pub subscans : (t s : ℕ) → t < scanTypes b → s < channelSets b → subscansOf b t s ≤ 512
+  -- its skew bytes, where skew is recorded: S/S of them, after its CS descriptors
+  pub skews : (t : ℕ) → t < scanTypes b → (skewFields b ≡ 0 → ⊥) → placeOf b t (channelSets b) + samplesOf b t ≤ length b
 
 -- "Values are compared in whole numbers": equality is one, the order is one, and a shift keeps the value
 pub record Compared : Type 0 where
@@ -65,28 +73,49 @@ pub record Compared : Type 0 where
   pub total : (a b : Scaled) → Less a b ⊎ (Same a b ⊎ Less b a)
   pub level : (m n x : ℤ) → lessTest (scaled m x) (scaled n x) ≡ ltZ m n
 
--- a row's word is its S, c, Q and the bits not used, and nothing else; and whatever these are, they make a word that has them
+-- "S ccc Q4" and its like: a row's word is its S, c, Q and the bits not used, and nothing else; and whatever these are, they make a word
+-- that has them
 pub record Cut (r : Row) : Type 0 where
-  pub cut : (word : ℕ) → word < 2 ^ (r .width - r .apart) → ofFields r (signIn r word) (exponentIn r 0 word) (fractionIn r word) (lastIn r word) ≡ word
-  pub joined : (s e q last : ℕ) → s < 2 → e < 2 ^ (r .exponent - r .apart) → q < 2 ^ r .fraction → last < 2 ^ spareOf r → Has r (ofFields r s e q last) s e q last
+  pub cut : (word : ℕ) → word < 2 ^ (r .width - r .apart) →
+      ofFields r (signIn r word) (exponentIn r 0 word) (fractionIn r word) (lastIn r word) ≡ word
+  pub joined : (s e q last : ℕ) → s < 2 → e < 2 ^ (r .exponent - r .apart) → q < 2 ^ r .fraction → last < 2 ^ spareOf r →
+      Has r (ofFields r s e q last) s e q last
+
+-- "Questions: header, 11, 12", of a sample: its header is accepted, scan type t has a sample k, and a sheet that is used has its length
+pub record Askable (b sheet : List ℕ) (t k : ℕ) : Type 0 where
+  pub accepted : headerFault b ≡ Clear
+  pub there : hasSample b t k ≡ true
+  pub sheeted : sheetHolds b sheet ≡ true
 
 pub record Demand2 : Type 0 where
   -- a header is accepted exactly where it breaks no rule, and then has the page's fields
   pub accepts : (b : List ℕ) → headerFault b ≡ Clear → headerAnswer b ≡ Accepted (headerOf b)
   pub fields : (b : List ℕ) (h : Header) → headerAnswer b ≡ Accepted h → (headerFault b ≡ Clear) × (h ≡ headerOf b)
-  -- and so has a channel set
-  pub sets : (b : List ℕ) (t s : ℕ) (d : ChannelSet) → descriptorAnswer b t s ≡ Set d → d ≡ channelSetOf b (t - 1) (s - 1)
+  -- a channel set is described exactly where its header is accepted and it is there, and then has the page's fields
+  pub described : (b : List ℕ) (t s : ℕ) → headerFault b ≡ Clear → isSet b t s ≡ true →
+      descriptorAnswer b t s ≡ Set (channelSetOf b (t - 1) (s - 1))
+  pub sets : (b : List ℕ) (t s : ℕ) (d : ChannelSet) → descriptorAnswer b t s ≡ Set d →
+      (headerFault b ≡ Clear) × (isSet b t s ≡ true) × (d ≡ channelSetOf b (t - 1) (s - 1))
   -- index and place are each the other's inverse on every block, and reach every k below S/S once
   pub places : (b : List ℕ) → Inverse b
   -- every word of a multiplexed code, no wider than the code's, is the sample that its row's columns give
-  pub samples : (code c word : ℕ) (r : Row) → rowOf code ≡ At r → r .code < 0x8000 → c < 2 ^ r .apart → word < 2 ^ (r .width - r .apart) → wordOf code c word ≡ sampleIn r c word
+  pub samples : (code c word : ℕ) (r : Row) → rowOf code ≡ At r → r .code < 0x8000 → c < 2 ^ r .apart → word < 2 ^ (r .width - r .apart) →
+      wordOf code c word ≡ sampleIn r c word
   pub cut : (code : ℕ) (r : Row) → rowOf code ≡ At r → Cut r
   -- each at its own place in the scan
   pub own : (b : List ℕ) → headerFault b ≡ Clear → OwnBytes b
   pub values : Compared
   -- sample k's skew byte is byte k of the part that is handed out
-  pub skews : (b sheet : List ℕ) (p q : ℕ × ℕ) (t k : ℕ) → k < samplesOf b t → getD (skewOf (slice p b) (slice q sheet) t .bytes) k 0 ≡ skewByte b sheet t k
-  -- a time that is given is 16 T + SS x I
-  pub times : (b sheet : List ℕ) (t k T time : ℕ) → timeAnswer b sheet t k T ≡ Time time → time ≡ timeBy T (skewByte b sheet (t - 1) k) (intervalOf b)
+  pub skews : (b sheet : List ℕ) (p q : ℕ × ℕ) (t k : ℕ) → k < samplesOf b t →
+      getD (skewOf (slice p b) (slice q sheet) t .bytes) k 0 ≡ skewByte b sheet t k
+  -- it is given exactly where it can be asked for,
+  pub skewed : (b sheet : List ℕ) (t k : ℕ) → Askable b sheet t k → skewAnswer b sheet t k ≡ Skew (skewByte b sheet (t - 1) k)
+  pub skewBytes : (b sheet : List ℕ) (t k SS : ℕ) → skewAnswer b sheet t k ≡ Skew SS →
+      Askable b sheet t k × (SS ≡ skewByte b sheet (t - 1) k)
+  -- and a time exactly where moreover T is below 2^24: it is 16 T + SS x I
+  pub timed : (b sheet : List ℕ) (t k T : ℕ) → Askable b sheet t k → T < 2 ^ 24 →
+      timeAnswer b sheet t k T ≡ Time (timeBy T (skewByte b sheet (t - 1) k) (intervalOf b))
+  pub times : (b sheet : List ℕ) (t k T time : ℕ) → timeAnswer b sheet t k T ≡ Time time →
+      Askable b sheet t k × (T < 2 ^ 24) × (time ≡ timeBy T (skewByte b sheet (t - 1) k) (intervalOf b))
   -- the starred figures: among them a header that is accepted, and samples that have their places
   pub starred : All figures

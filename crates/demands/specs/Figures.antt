@@ -1,10 +1,11 @@
 -- The starred bench figures: one table, and what it is that each of its lines says. (`proofs/Figures.antt` has the one theorem.)
+-- It has two things more: the four examples of the descale exponent MP, and 0042's word 80, which is not off rule.
 -- Assumes nothing.
 use Prim.Native.Nat.{ℕ}
 use mathlib.Core.Path.{_≡_}
 use mathlib.Core.Bool.{true, false}
 use mathlib.Core.List.{List, [], _∷_, _++_}
-use lib.IntN.{pos, negℤ}
+use lib.IntN.{ℤ, pos, negℤ}
 use lib.ListN.{length, replicate}
 use Rattle.refusals.specs.declared.Fault.the-variants.{Clear}
 use Rattle.refusals.specs.declared.Refusal.the-variants as refusal
@@ -17,6 +18,7 @@ use Rattle.block.specs.declared.Pair.the-variants.{Digits, NoPair}
 use Rattle.block.specs.Bytes.{packedOf}
 use Rattle.general.specs.General.{bytesPerScan, skewFields}
 use Rattle.sets.specs.Samples.{samplesOf}
+use Rattle.sets.specs.ChannelSets.{quarters}
 use Rattle.header.specs.Faults.{headerFault}
 use Rattle.layout.specs.declared.Place.{Place}
 use Rattle.layout.specs.declared.Place.the-variants.{Sits, NoPlace}
@@ -45,6 +47,8 @@ pub data Figure : Type 0 where
   word : (code : ℕ) → (c : ℕ) → (bits : ℕ) → Word → Figure
   -- a value, in millivolts, that is another
   value : Scaled → Scaled → Figure
+  -- a byte as a descale exponent MP, in quarters
+  descale : (byte : ℕ) → ℤ → Figure
   -- a byte as a digit pair
   pair : (byte : ℕ) → Pair → Figure
   -- a header block that is accepted, with its S/S, B, SK and length
@@ -59,6 +63,7 @@ pub data Figure : Type 0 where
 abbrev pub Says : Figure → Type 0
 Says (word code c bits is) = wordOf code c bits ≡ is
 Says (value a b) = Same a b
+Says (descale byte is) = quarters byte ≡ is
 Says (pair byte is) = packedOf byte ≡ is
 Says (header block samples scan skew bytes) =
     (headerFault block ≡ Clear) × (samplesOf block 0 ≡ samples) × (bytesPerScan block ≡ scan) × (skewFields block ≡ skew) × (length block ≡ bytes)
@@ -70,6 +75,10 @@ unfoldable pub figures : List Figure
 figures =
     pair 0x99 (Digits 99) ∷
     pair 0x9A NoPair ∷
+    descale 0x01 (pos 1) ∷
+    descale 0x81 (negℤ (pos 1)) ∷
+    descale 0x7F (pos 127) ∷
+    descale 0x80 (pos 0) ∷
     word 0x0022 0 0x97 (Sample (negℤ (pos 8)) (negℤ (pos 2)) false) ∷
     word 0x0022 0 0xFF (Sample (pos 0) (pos 10) true) ∷
     word 0x0042 0 0xFE (Sample (negℤ (pos 30)) (pos 7) false) ∷

@@ -13,7 +13,7 @@ use Rattle.basis.specs.Digits.{written}
 use Rattle.framing.specs.declared.Frame.the-variants.{Start, Length, Item, Wrong}
 use Rattle.framing.specs.declared.Ending.the-variants.{Cut, Version}
 use Rattle.framing.specs.Image.{Reading, ends, then, lengthOf, byLength, itemsOf, readingOf}
-use Rattle.framing.specs.Cuts.{Told, byte, close, Walk, after, walks, joined, itemTold, itemsTold, Agrees}
+use Rattle.framing.specs.Cuts.{Told, byte, close, Walk, after, joined, itemTold, itemsTold, Agrees, Framed}
 use Rattle.framing.proofs.Bytewise.{sized, marks, feed, feed-over, feed-wrong, feed-part, feed-whole}
 use Rattle.framing.proofs.Portions.{walks-feed}
 
@@ -71,6 +71,6 @@ whole (v ∷ rest) = go (eqb v 1)
     go true = reads (length rest) false rest (omega arith)
     go false = rw (feed-wrong rest) (record { told = refl; ending = refl })
 
--- THE THEOREM: for every image, cut anywhere, the items, marks and the ending are those of the whole image
-pub framed : (portions : List (List ℕ)) → Agrees (readingOf (joined portions)) (walks Start portions)
+-- for every image, cut anywhere: portion after portion is byte after byte, and the bytes are those of the whole image
+pub framed : Framed
 framed portions = rw (walks-feed Start portions) (whole (joined portions))

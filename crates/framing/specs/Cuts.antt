@@ -5,9 +5,10 @@ use mathlib.Core.Path.{_≡_}
 use mathlib.Core.List.{List, [], _∷_, _++_, map}
 use lib.ListN.{length, take, drop}
 use Rattle.framing.specs.declared.Frame.{Frame}
+use Rattle.framing.specs.declared.Frame.the-variants.{Start}
 use Rattle.framing.specs.declared.Met.{Met}
 use Rattle.framing.specs.declared.Met.the-variants.{Framing, Part, Whole, Mark}
-use Rattle.framing.specs.Image.{Reading}
+use Rattle.framing.specs.Image.{Reading, readingOf}
 use Rattle.framing.specs.Next.{nextOf, endingOf}
 
 -- what is told of an image, byte by byte: an item's byte, the end of an item, a mark
@@ -69,3 +70,7 @@ joined (p ∷ ps) = p ++ joined ps
 pub record Agrees (r : Reading) (w : Walk) : Type 0 where
   pub told : w .told ≡ toldOf r
   pub ending : endingOf (w .frame) ≡ r .ending
+
+-- "reads a reel image from standard input": however the image is cut into portions, its items, its marks and its ending are those of the whole
+abbrev pub Framed : Type 0
+Framed = (portions : List (List ℕ)) → Agrees (readingOf (joined portions)) (walks Start portions)

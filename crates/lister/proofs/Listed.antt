@@ -20,6 +20,7 @@ use Rattle.framing.proofs.Framed.{framed}
 use Rattle.agree.specs.Calls.{Bytes}
 use Rattle.lister.specs.declared.Turn.{Turn}
 use Rattle.lister.specs.Listing.{filesOf, linesOf, printedOf}
+use Rattle.lister.specs.Listed.{Listed}
 use Rattle.lister.specs.Turn.{Lister, turns, lists, printed, Portions, fresh, joinedTurn, heardOf, heardHeader, heardNumbers, heardLine}
 use Rattle.lister.proofs.Bytes.{bytes-take, bytes-drop, bytes-joined, items-bytes}
 use Rattle.lister.proofs.Telling.{Sum, tellAll, tell-append, tell-bytes, sum, tell-all}
@@ -112,10 +113,10 @@ lists-walks cap most u s (p ∷ ps) k g =
           (rw f at (rest .fine));
     }
 
--- for every image, cut into portions whose samples have room: what is printed is the listing of the whole image
-pub listed : (header : List ℕ) (numbers : List ℤ) (line : List ℕ) (portions : List (List ℕ)) → 128 ≤ length line → Portions (length numbers / 2) portions
+-- whatever the room for a header item
+listed-in : (header : List ℕ) (numbers : List ℤ) (line : List ℕ) (portions : List (List ℕ)) → 128 ≤ length line → Portions (length numbers / 2) portions
     → printed (lists (fresh header numbers line) portions) ≡ printedOf (length header) (joined portions)
-listed header numbers line portions room short =
+listed-in header numbers line portions room short =
     let cap : ℕ = length header in
     let u : Sum = sum [] 0 [] in
     let g : Fine cap (length numbers / 2) u (fresh header numbers line) = record { rel = record { file-is = refl; count-is = refl; out-is = refl; whole = tt; some = tt; kept = λ n h. refl }; room = room; size = refl; half = refl } in
@@ -129,3 +130,6 @@ listed header numbers line portions room short =
     ∙ tell-all cap (r .items) (items-bytes (joined portions) (bytes-joined (length numbers / 2) portions short)) in
     let end : endingOf ((lists (fresh header numbers line) portions) .tape .frame) ≡ r .ending = ap endingOf (b .frame) ∙ a .ending in
     rw (text, end)
+
+pub listed : Listed
+listed header numbers line portions size room short = listed-in header numbers line portions room short ∙ ap (λ (cap : ℕ). printedOf cap (joined portions)) size

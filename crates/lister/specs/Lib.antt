@@ -1,3 +1,4 @@
 pub mod Listing
 pub mod File
 pub mod Turn
+pub mod Listed

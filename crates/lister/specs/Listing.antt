@@ -44,6 +44,10 @@ byHeader (Refused r) header blocks = O.Refused r 0
 byHeader (Accepted h) header blocks =
     reported (h .file) (h .code) (length (joined blocks)) (closing (shapeOf header) (bodyIn blocks))
 
+-- "LARGE, lister only: header item above 65,536 bytes": the room that the lister lends for a header item
+abbrev pub headerRoom : ℕ
+headerRoom = 65536
+
 -- "In a file the first item is the header, the rest are blocks"; LARGE for a header item above cap bytes
 abbrev pub outcomeOf : ℕ → List ℕ → List (List ℕ) → Outcome
 outcomeOf cap header blocks = pick (leb (length header) cap) (byHeader (headerAnswer header) header blocks) (O.Refused R.Large 0)

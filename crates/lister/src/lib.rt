@@ -6,6 +6,8 @@ ghost use mathlib.Core.Path.{_≡_};
 ghost use Prim.Native.Nat.{_/_, _≤_};
 ghost use lib.ListN.{length};
 ghost use Rattle.lister.specs.File.{saidOf};
+ghost use Rattle.lister.specs.Listing.{headerRoom};
+ghost use Rattle.lister.specs.Listed.{lineRoom};
 ghost use Rattle.lister.specs.Turn.{marked, markedLine, heardOf, heardHeader, heardNumbers, heardLine, turnOf, turnHeader, turnNumbers, turnLine, walked};
 use file::Said;
 use file::item_end;
@@ -143,9 +145,9 @@ fn print(line: &[u8], n: usize) {
 }
 
 // All of a portion, each line printed as it comes. The numbers' buffer has room for every sample
-// that the portion may complete, so that ROOM cannot arise.
+// that the portion may complete, so that ROOM cannot arise. The buffers are those of `Listed`.
 fn walk(start: Tape, bytes: &[u8], header: &mut [u8], numbers: &mut [i32], line: &mut [u8]) -> Tape
-    requires { ⌜ length (now bytes) ≤ length (now numbers) / 2 ⌝ }
+    requires { ⌜ (length (now bytes) ≤ length (now numbers) / 2) × (length (now header) ≡ headerRoom) × (lineRoom ≤ length (now line)) ⌝ }
     ensures { λ r. ⌜ (r ≡ walked start (now (bytes .entry)) (now (header .entry)) (now (numbers .entry)) (now (line .entry)) .tape) × (now (header .exit) ≡ walked start (now (bytes .entry)) (now (header .entry)) (now (numbers .entry)) (now (line .entry)) .header) × (now (numbers .exit) ≡ walked start (now (bytes .entry)) (now (header .entry)) (now (numbers .entry)) (now (line .entry)) .numbers) × (now (line .exit) ≡ walked start (now (bytes .entry)) (now (header .entry)) (now (numbers .entry)) (now (line .entry)) .line) ⌝ }
 {
     let mut tape = start;
