@@ -1,4 +1,4 @@
-//! Puts the same questions to the compiled library and to the reader.
+//! Puts the same questions to what is compiled and to the reader.
 //!
 //! A module for each topic. What is compared is counted in groups; a group
 //! passes if no answer in it differs and every answer it is about came up.
@@ -7,12 +7,13 @@
 pub mod body;
 #[cfg(feature = "header")]
 pub mod header;
-#[cfg(feature = "header")]
 pub mod inputs;
+pub mod listings;
 #[cfg(feature = "parts")]
 pub mod parts;
 #[cfg(feature = "places")]
 pub mod places;
+pub mod program;
 #[cfg(feature = "skew")]
 pub mod skew;
 pub mod words;
@@ -24,14 +25,21 @@ use std::fmt::Debug;
 /// How much to compare.
 #[derive(Clone, Copy, PartialEq, Eq)]
 pub enum Effort {
+    /// for a run under a checker of memory, which takes many times as long
+    Brief,
     Bounded,
     Full,
 }
 
+/// How many times less a brief run draws, and the number that it does not go below.
+const BRIEFER: u64 = 40;
+const FEWEST: u64 = 100;
+
 impl Effort {
-    /// One of two numbers.
+    /// One of two numbers, or a part of the first.
     pub fn of(self, bounded: u64, full: u64) -> u64 {
         match self {
+            Effort::Brief => (bounded / BRIEFER).max(bounded.min(FEWEST)),
             Effort::Bounded => bounded,
             Effort::Full => full,
         }
@@ -88,7 +96,7 @@ impl Group {
     ) {
         self.rows[row] += 1;
         self.differ_unless(ours == wanted, || {
-            format!("{}\n    library: {ours:?}\n    reader:  {wanted:?}", input())
+            format!("{}\n    compiled: {ours:?}\n    reader:   {wanted:?}", input())
         });
     }
 
@@ -203,18 +211,16 @@ impl Results {
 }
 
 /// Compares all that the library has.
-pub fn everything(effort: Effort) -> Results {
-    let mut results = Results::default();
-    words::compare(&mut results, effort);
+pub fn library(results: &mut Results, effort: Effort) {
+    words::compare(results, effort);
     #[cfg(feature = "header")]
-    header::compare(&mut results, effort);
+    header::compare(results, effort);
     #[cfg(feature = "places")]
-    places::compare(&mut results, effort);
+    places::compare(results, effort);
     #[cfg(feature = "parts")]
-    parts::compare(&mut results, effort);
+    parts::compare(results, effort);
     #[cfg(feature = "skew")]
-    skew::compare(&mut results, effort);
+    skew::compare(results, effort);
     #[cfg(feature = "body")]
-    body::compare(&mut results, effort);
-    results
+    body::compare(results, effort);
 }

@@ -1,4 +1,5 @@
-//! The compiled library's calls, answering in the reader's own types.
+//! The compiled library's calls, answering in the reader's own types, and the
+//! compiled lister.
 //!
 //! A module for each group of calls. The structs mirror those of
 //! `crates/deck/src/lib.rt`, field by field.
@@ -7,6 +8,7 @@
 pub mod body;
 #[cfg(feature = "header")]
 pub mod header;
+pub mod lister;
 #[cfg(feature = "parts")]
 pub mod parts;
 #[cfg(feature = "places")]

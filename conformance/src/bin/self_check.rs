@@ -633,7 +633,6 @@ fn refused(answer: &Answer) -> Option<&Refusal> {
     }
 }
 
-/// Every image has one of the three last lines.
 /// The report on a record that has to be sound.
 fn report((block, body): &Record) -> Report {
     let reading = read_body(block, body).expect("the header is accepted");
@@ -652,7 +651,7 @@ fn check_made_records(checks: &mut Checks) {
     checks.equal("scan type at the end", report(&switched).scan_type, 2);
     let dynamic = |scan: usize| switched.1.blocks[0][scan * 112 + 3] & 0x10 != 0;
     checks.equal("the change", [0, 1_499, 1_500, 2_999].map(dynamic), [false, false, true, true]);
-    let large = large_blocks(&mut rng);
+    let large = large_blocks(&mut rng, 0x0015, 2);
     let lengths: Vec<usize> = large.1.blocks.iter().map(Vec::len).collect();
     checks.equal("blocks of E9", lengths, vec![261_576; 2]);
     checks.equal("samples of E9", report(&large).samples, 2 * 692 * 148);
@@ -661,6 +660,7 @@ fn check_made_records(checks: &mut Checks) {
     checks.equal("samples of the longest scan", report(&longest).samples, 999_991);
 }
 
+/// Every image has one of the three last lines.
 fn check_made_reels(checks: &mut Checks) {
     let mut rng = Rng::new(11);
     for _ in 0..200 {

@@ -175,6 +175,13 @@ pub fn wide_plan(rng: &mut Rng, code: u16) -> Plan {
     plan
 }
 
+/// A plan whose header is the longest that is listed, 65,536 bytes, or the least
+/// that is too long for that: 23 scan types of 89 sets, and at times a field more.
+pub fn largest_plan(rng: &mut Rng, code: u16) -> Plan {
+    let plan = any_plan(rng, code, 23, 89, 12);
+    Plan { skew_fields: 0, extended_fields: rng.range(0, 1), external_fields: 0, ..plan }
+}
+
 /// One of the six codes.
 pub fn any_code(rng: &mut Rng) -> u16 {
     rng.pick(&CODES)

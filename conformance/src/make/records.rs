@@ -50,12 +50,12 @@ pub fn switched_interval(rng: &mut Rng, code: u16, scans: usize) -> Record {
     record(rng, &plan(code, vec![first, second]), scans)
 }
 
-/// The paper's E9, with the scans of its E2: two blocks of 173 x 2^2 scans of
-/// 378 bytes.
-pub fn large_blocks(rng: &mut Rng) -> Record {
-    let gapless = plan(0x0015, vec![vec![set(4, 0), set(96, 0), set(12, 2)]]);
+/// The paper's E9, with the sets of its E2: blocks of 173 x 2^2 scans, which are
+/// of 378 bytes in 0015.
+pub fn large_blocks(rng: &mut Rng, code: u16, blocks: usize) -> Record {
+    let gapless = plan(code, vec![vec![set(4, 0), set(96, 0), set(12, 2)]]);
     let plan = Plan { block_exponent: 2, block_scans: 173, ..gapless };
-    record(rng, &plan, 2 * 173 * 4)
+    record(rng, &plan, blocks * 173 * 4)
 }
 
 /// Scans of 999,999 bytes, the longest there can be. Their skew is too long to be

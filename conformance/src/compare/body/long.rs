@@ -25,7 +25,7 @@ pub fn compare(results: &mut Results, effort: Effort) {
         switched_interval(&mut rng, code, scans)
     });
     compare_records(results, "two blocks of 261576 bytes", [0x0015].into_iter(), |_| {
-        large_blocks(&mut rng)
+        large_blocks(&mut rng, 0x0015, 2)
     });
     compare_records(results, "scans of 999999 bytes", [0x0022].into_iter(), |_| {
         longest_scans(&mut rng, effort.of(1, 8) as usize)

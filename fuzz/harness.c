@@ -1,0 +1,261 @@
+/* One input, read as a header block, a script of calls and the bytes of a body, put to the library.
+
+   An input is the block's length (three bytes, the greatest first) and the script's (two bytes), then block, script and body. Where
+   it is too short the block is cut, then the script. A call of the script is a byte, its last three bits the kind, and its numbers. */
+#include "body.h"
+#include "demand.h"
+#include "lend.h"
+#include "questions.h"
+
+#include <string.h>
+
+enum kind { PORTION, CRAMPED, BLOCK_END, CLOSE, QUESTIONS, FORGED_FIELD, FORGED_STATE, WORD };
+
+/* Bytes that are taken from the front. Where there are no more they are 0. */
+struct bytes {
+    const uint8_t *at;
+    size_t left;
+};
+
+static struct bytes take(struct bytes *from, size_t length)
+{
+    struct bytes taken = {from->at, length < from->left ? length : from->left};
+    from->at += taken.left;
+    from->left -= taken.left;
+    return taken;
+}
+
+static uint32_t number(struct bytes *from, size_t size)
+{
+    struct bytes taken = take(from, size);
+    uint32_t value = 0;
+    for (size_t i = 0; i < size; i++)
+        value = value << 8 | (i < taken.left ? taken.at[i] : 0);
+    return value;
+}
+
+/* A record as the script goes through it: what is left of the body, and the places of the block ends so far. */
+struct record {
+    struct bytes block, script, body;
+    const uint8_t *body_start;
+    SegdHeader header;
+    struct reading cut;
+    size_t ends[1u << 16];
+    size_t end_count;
+};
+
+/* The same bytes with each block as one portion. */
+static void read_uncut(const struct record *record, struct reading *uncut)
+{
+    size_t taken = (size_t)(record->body.at - record->body_start), from = 0;
+    for (size_t i = 0; i < record->end_count; i++) {
+        put_portion(uncut, record->body_start + from, record->ends[i] - from, 2 * (record->ends[i] - from));
+        put_block_end(uncut);
+        from = record->ends[i];
+    }
+    put_portion(uncut, record->body_start + from, taken - from, 2 * (taken - from));
+}
+
+static int same_closing(const SegdClosing *a, const SegdClosing *b)
+{
+    return a->refusal.number == b->refusal.number && a->refusal.first == b->refusal.first && a->refusal.second == b->refusal.second &&
+           a->scans == b->scans && a->off == b->off && a->samples == b->samples && a->last_type == b->last_type &&
+           a->itb_known == b->itb_known && a->itb == b->itb && a->window_known == b->window_known && a->window == b->window;
+}
+
+/* Sample k of a scan by the call that reads a word. In 0015 four exponents of four bits come before four words. */
+static SegdWord word_of(const uint8_t *scan, uint16_t code, size_t k)
+{
+    SegdFormat format = segd_format(code);
+    size_t size = (format.width - format.apart) / 8, group = format.apart > 0 ? 4 : 1, exponents = format.apart * group / 8;
+    const uint8_t *start = scan + 8 + k / group * (exponents + size * group);
+    struct bytes before = {start, exponents}, word = {start + exponents + k % group * size, size};
+    uint32_t c = exponents > 0 ? number(&before, exponents) >> 4 * (3 - k % 4) & 15 : 0;
+    return segd_read_word(code, c, number(&word, size));
+}
+
+/* Every sample is that of its word, wherever it stood in the body. Gives how many words are off rule. */
+static uint32_t compare_with_words(const struct record *record)
+{
+    const SegdGeneral *header = &record->header.header;
+    const struct reading *cut = &record->cut;
+    uint32_t off = 0;
+    for (size_t i = 0; i < cut->count / 2; i++) {
+        size_t scan = i / header->samples_per_scan, k = i % header->samples_per_scan;
+        SegdWord word = word_of(record->body_start + scan * header->bytes_per_scan, header->code, k);
+        DEMAND(word.refusal.number == 0 && cut->numbers[2 * i] == word.m && cut->numbers[2 * i + 1] == word.x);
+        off += word.off;
+    }
+    return off;
+}
+
+/* However the body is cut: the samples, the stop and the closing are those of the uncut one. */
+static void compare_with_uncut(const struct record *record, SegdState opened)
+{
+    static int32_t numbers[2 * MOST_BYTES];
+    struct reading uncut = {opened, numbers, 0};
+    const struct reading *cut = &record->cut;
+    read_uncut(record, &uncut);
+    SegdClosing closing = put_close(uncut.state), of_cut = put_close(cut->state);
+    DEMAND(uncut.count == cut->count && memcmp(uncut.numbers, cut->numbers, cut->count * sizeof *numbers) == 0);
+    DEMAND(uncut.state.stop == cut->state.stop && uncut.state.stopat == cut->state.stopat);
+    DEMAND(same_closing(&closing, &of_cut));
+    uint32_t off = compare_with_words(record);
+    if (closing.refusal.number == 0) {
+        DEMAND(2 * closing.samples == cut->count && closing.off == off);
+        DEMAND(closing.samples == (uint64_t)closing.scans * record->header.header.samples_per_scan);
+    }
+}
+
+/* The next bytes of the body as a portion, with room enough or not. What is refused is not taken. */
+static void do_portion(struct record *record, size_t length, size_t spare)
+{
+    struct reading *cut = &record->cut;
+    struct bytes kept = record->body, taken = take(&record->body, length);
+    if (cut->state.shape.scan > 0)
+        cut_at(cut->state.place % cut->state.shape.scan, cut->state.shape.code);
+    if (!put_portion(cut, taken.at, taken.left, 2 * taken.left + spare))
+        record->body = kept;
+}
+
+static void do_cramped(struct record *record, size_t length, size_t room)
+{
+    struct bytes body = record->body, taken = take(&body, length);
+    if (taken.left > 0)
+        put_portion(&record->cut, taken.at, taken.left, room % (2 * taken.left));
+}
+
+static void do_block_end(struct record *record)
+{
+    put_block_end(&record->cut);
+    record->ends[record->end_count++] = (size_t)(record->body.at - record->body_start);
+}
+
+/* A sheet of the length that the header asks for, or of another; its bytes are those of the body, and then 0. */
+static void lend_sheet(const struct record *record, struct lent_block *lent, int fitting, size_t other)
+{
+    const SegdGeneral *header = &record->header.header;
+    size_t due = (size_t)header->scan_types * header->samples_per_scan;
+    struct bytes all = {record->body_start, (size_t)(record->body.at + record->body.left - record->body_start)};
+    struct bytes taken = {NULL, 0};
+    lent->sheet_length = fitting && due <= MOST_BYTES ? due : other;
+    taken = take(&all, lent->sheet_length);
+    uint8_t *sheet = lend_room(LENT_SHEET, lent->sheet_length);
+    memset(sheet, 0, lent->sheet_length);
+    if (taken.left > 0)
+        memcpy(sheet, taken.at, taken.left);
+    lent->sheet = sheet;
+}
+
+static void do_questions(struct record *record, int fitting)
+{
+    struct bytes *script = &record->script;
+    struct lent_block lent = {lend(LENT_BLOCK, record->block.at, record->block.left), record->block.left, NULL, 0};
+    struct numbers numbers;
+    numbers.scan_type = number(script, 1);
+    numbers.set = number(script, 1);
+    numbers.channel = number(script, 2);
+    numbers.subscan = number(script, 2);
+    numbers.k = number(script, 4);
+    numbers.t = number(script, 4);
+    lend_sheet(record, &lent, fitting, number(script, 2));
+    ask_all(&lent, &numbers);
+    DEMAND(lent.length == 0 || memcmp(lent.block, record->block.at, lent.length) == 0);
+}
+
+/* Every call on a state that no call gave, with the next bytes of the body. */
+static void use_forged(const struct record *record, SegdState state, size_t length)
+{
+    static int32_t numbers[2 * MOST_BYTES];
+    struct bytes body = record->body, taken = take(&body, length);
+    struct reading fed = {state, numbers, 0}, ended = {state, numbers, 0};
+    put_portion(&fed, taken.at, taken.left, 2 * taken.left);
+    put_block_end(&ended);
+    put_close(state);
+    put_close(fed.state);
+    put_close(ended.state);
+}
+
+/* The present state with one field replaced; the first field is the code. */
+static void do_forged_field(struct record *record)
+{
+    SegdState state = record->cut.state;
+    size_t first = offsetof(SegdState, shape.scan), fields = (sizeof state - first) / sizeof(uint32_t);
+    size_t field = number(&record->script, 1) % (fields + 1);
+    uint32_t value = number(&record->script, 4);
+    if (field == 0)
+        state.shape.code = (uint16_t)value;
+    else
+        memcpy((char *)&state + first + (field - 1) * sizeof value, &value, sizeof value);
+    use_forged(record, state, number(&record->script, 2));
+}
+
+static void do_forged_state(struct record *record)
+{
+    SegdState state = {0};
+    struct bytes taken = take(&record->script, sizeof state);
+    if (taken.left > 0)
+        memcpy(&state, taken.at, taken.left);
+    use_forged(record, state, number(&record->script, 2));
+}
+
+static void do_word(struct bytes *script)
+{
+    uint16_t code = (uint16_t)number(script, 2);
+    uint32_t c = number(script, 1), word = number(script, 4);
+    ask_word(code, c, word);
+}
+
+static void do_call(struct record *record)
+{
+    uint32_t call = number(&record->script, 1), more = call >> 3;
+    switch ((enum kind)(call & 7)) {
+    case PORTION: do_portion(record, number(&record->script, 2), more & 3); break;
+    case CRAMPED: do_cramped(record, number(&record->script, 2), more); break;
+    case BLOCK_END: do_block_end(record); break;
+    case CLOSE: put_close(record->cut.state); break;
+    case QUESTIONS: do_questions(record, more & 1); break;
+    case FORGED_FIELD: do_forged_field(record); break;
+    case FORGED_STATE: do_forged_state(record); break;
+    case WORD: do_word(&record->script); break;
+    }
+}
+
+/* Opens the record: what the header refuses, opening refuses too, with a state that is all 0. */
+static SegdState open_record(struct record *record)
+{
+    static const SegdState nothing;
+    const uint8_t *block = lend(LENT_BLOCK, record->block.at, record->block.left);
+    record->header = segd_read_header(block, record->block.left);
+    SegdOpened opened = segd_open(block, record->block.left);
+    uint32_t number = record->header.refusal.number;
+    DEMAND(opened.refusal.number == number && opened.refusal.first == record->header.refusal.first);
+    DEMAND(opened.refusal.second == record->header.refusal.second);
+    DEMAND((put_close(opened.state).refusal.number == SEGD_STATE) == (number != 0));
+    DEMAND(number == 0 || same_state(&opened.state, &nothing));
+    return opened.state;
+}
+
+int LLVMFuzzerTestOneInput(const uint8_t *data, size_t size);
+
+int LLVMFuzzerTestOneInput(const uint8_t *data, size_t size)
+{
+    static int32_t numbers[2 * MOST_BYTES];
+    static struct record record;
+    struct bytes input = {data, size};
+    if (size > MOST_BYTES)
+        return 0;
+    uint32_t block_length = number(&input, 3), script_length = number(&input, 2);
+    lend_beside(size % 2); /* both sides come up, since the fuzzer makes inputs longer and shorter */
+    record.block = take(&input, block_length);
+    record.script = take(&input, script_length);
+    record.body = input;
+    record.body_start = input.at;
+    record.end_count = 0;
+    SegdState opened = open_record(&record);
+    record.cut = (struct reading){opened, numbers, 0};
+    while (record.script.left > 0)
+        do_call(&record);
+    compare_with_uncut(&record, opened);
+    return 0;
+}
