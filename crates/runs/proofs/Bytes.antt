@@ -1,8 +1,8 @@
 -- Numbers of one, two and four bytes.
 -- Assumes nothing.
-use Prim.Native.Nat.{ℕ, _+_, _*_}
+use Prim.Native.Nat.{ℕ, _+_, _*_, _/_, _%_, _<_}
 use mathlib.Core.Path.{_≡_}
-use native.Mathlib.Nat.{add-zero, add-assoc}
+use native.Mathlib.Nat.{add-zero}
 use native.Mathlib.Omega.{arith}
 use Rattle.basis.specs.Digits.{written}
 
@@ -14,6 +14,17 @@ pub written-two : (d : ℕ → ℕ) (i : ℕ) → written 256 d i 2 ≡ d i * 25
 unfolding written
 written-two d i = rw add-zero (omega arith)
 
-pub written-four : (d : ℕ → ℕ) (i : ℕ) → written 256 d i 4 ≡ written 256 d i 2 * 65536 + written 256 d (i + 2) 2
+pub written-four : (d : ℕ → ℕ) (i : ℕ) → written 256 d i 4 ≡ d i * 16777216 + d (i + 1) * 65536 + d (i + 2) * 256 + d (i + 3)
 unfolding written
-written-four d i = rw (add-assoc i 2 0, add-assoc i 2 1) (omega arith)
+written-four d i = rw add-zero (omega arith)
+
+-- the bytes of a word of two or four, the least first
+pub little-two : {a b : ℕ} → a < 256 → b < 256 → ((a + b * 256) % 256 ≡ a) × ((a + b * 256) / 256 ≡ b)
+little-two p q = (omega arith, omega arith)
+
+pub little-four : {a b c d : ℕ} → a < 256 → b < 256 → c < 256 → d < 256
+    → ((a + b * 256 + c * 65536 + d * 16777216) % 256 ≡ a)
+    × (((a + b * 256 + c * 65536 + d * 16777216) / 256 % 256 ≡ b)
+    × (((a + b * 256 + c * 65536 + d * 16777216) / 65536 % 256 ≡ c)
+    × ((a + b * 256 + c * 65536 + d * 16777216) / 16777216 ≡ d)))
+little-four p q r s = (omega arith, (omega arith, (omega arith, omega arith)))

@@ -1,12 +1,13 @@
 -- What each loop over words keeps, and where it ends: one law, over the value of word k.
 -- Assumes nothing.
-use Prim.Native.Nat.{ℕ, zero, suc, min, _+_, _*_, _/_, _≤_, _<_}
+use Prim.Native.Nat.{ℕ, zero, suc, min, _+_, _-_, _*_, _/_, _≤_, _<_}
 use mathlib.Core.Path.{_≡_, refl, _∙_}
 use mathlib.Core.List.{List, [], _∷_, _++_}
 use native.Mathlib.Nat.{min-le-left, min-le-right}
 use native.Mathlib.Omega.{arith}
 use lib.IntN.{ℤ}
-use lib.ListN.{length, length-append, take, drop, set, length-set, take-append-drop}
+use lib.ListN.{length, length-append, take, drop, length-drop, set, length-set, take-append-drop}
+use lib.Seq.{take-at, drop-at}
 use Rattle.basis.specs.Upto.{upto}
 use Rattle.basis.proofs.Choices.{pick-both}
 use Rattle.basis.proofs.Uptos.{upto-more}
@@ -18,6 +19,9 @@ use Rattle.runs.proofs.Writes.{take-two, drop-two, further}
 pub one-low : (w : Value) → offOne w ≤ 1
 unfolding offOne
 one-low w = pick-both (λ (n : ℕ). n ≤ 1) _ (omega arith) (omega arith)
+
+pub counted-low : (w : Value) {t : ℕ} → t ≡ offOne w → t ≤ 1
+counted-low w e = rw e (one-low w)
 
 pub offs-more : (f : ℕ → Value) (n : ℕ) → offs f (n + 1) ≡ offs f n + offOne (f n)
 unfolding offs
@@ -64,6 +68,34 @@ done-none f a n out e =
       back = refl;
     }
 
+offs-low : (f : ℕ → Value) (n : ℕ) → offs f n ≤ n
+unfolding offs upto
+offs-low f zero = omega arith
+offs-low f (suc n) = omega (arith, offs-low f n, one-low (f n))
+
+-- going on from the first k words, written elsewhere
+pub done-from : (f : ℕ → Value) (a n k : ℕ) (out₀ : List ℤ) {out : List ℤ} {off : ℕ} → n ≡ min a (length out₀ / 2) → k ≤ n → off ≡ offs f k → out ≡ over (numbers f k) out₀ → Done f a n out₀ out off k
+unfolding over
+done-from f a n k out₀ e h eo ew =
+    let z = done-none f a n out₀ e in
+    let l = numbers-length f k in
+    let w = rw l at ew in
+    record {
+      least = e;
+      there = z .there;
+      room = z .room;
+      within = h;
+      same = rw w (rw (length-append, l, length-drop) (omega (arith, z .room)));
+      few = omega (arith, offs-low f k);
+      counts = eo;
+      front = rw w (take-at (numbers f k) _ _ l);
+      back = rw w (drop-at (numbers f k) _ _ l);
+    }
+
+-- word j is written, and t says whether it is off rule
+abbrev pub Wrote : (ℕ → Value) → ℕ → List ℤ → List ℤ → ℕ → Type 0
+Wrote f j out o t = (t ≡ offOne (f j)) × (o ≡ set (set out (2 * j) (f j .m)) (2 * j + 1) (f j .x))
+
 module _ {f : ℕ → Value} {a n : ℕ} {out₀ out : List ℤ} {off k : ℕ} (d : Done f a n out₀ out off k) where
   -- one word more
   pub done-more : k < n → {x : Value} {off′ : ℕ} → x ≡ f k → off′ ≡ off + offOne x → Done f a n out₀ (set (set out (2 * k) (x .m)) (2 * k + 1) (x .x)) off′ (k + 1)
@@ -81,12 +113,60 @@ module _ {f : ℕ → Value} {a n : ℕ} {out₀ out : List ℤ} {off k : ℕ} (
         back = rw two (drop-two out (2 * k) (x .m) (x .x) ∙ further (2 * k) 2 out out₀ (d .back));
       }
 
+  -- the same of a word that is named otherwise, from what a call says
+  done-put : {o : List ℤ} {t j i : ℕ} → Wrote f j out o t → j ≡ k → i ≡ k + 1 → k < n → Done f a n out₀ o (off + t) i
+  done-put w ej ei h = rw (ei, w .1, ej) (done-more h {x = f k} refl (rw (w .0, ej)))
+
+  -- no matter what stood under the words that are written
+  pub done-self : Done f a n out out off k
+  done-self =
+      record {
+        least = rw (d .same) (d .least);
+        there = d .there;
+        room = rw (d .same) (d .room);
+        within = d .within;
+        same = refl;
+        few = d .few;
+        counts = d .counts;
+        front = d .front;
+        back = refl;
+      }
+
+  pub done-on : {out′ : List ℤ} {off′ k′ : ℕ} → Done f a n out out′ off′ k′ → k ≤ k′ → Done f a n out₀ out′ off′ k′
+  done-on {out′} {off′} {k′} e h =
+      let two : 2 * k′ ≡ 2 * k + (2 * k′ - 2 * k) = omega arith in
+      record {
+        least = d .least;
+        there = d .there;
+        room = d .room;
+        within = e .within;
+        same = e .same ∙ d .same;
+        few = e .few;
+        counts = e .counts;
+        front = e .front;
+        back = e .back ∙ rw two (further (2 * k) (2 * k′ - 2 * k) out out₀ (d .back));
+      }
+
+  -- what is written, over the front of what was there
+  pub done-far : (off ≡ offs f k) × (out ≡ over (numbers f k) out₀)
+  unfolding over
+  done-far = (d .counts, rw (numbers-length f k, ← d .front, ← d .back, take-append-drop))
+
   -- all of them
   done-all : n ≤ k → (off ≡ offs f n) × (out ≡ over (numbers f n) out₀)
-  unfolding over
   done-all h =
       let e : n ≡ k = omega (arith, d .within) in
-      (rw e (d .counts), rw (e, numbers-length f k, ← d .front, ← d .back, take-append-drop))
+      rw e done-far
+
+-- the four words of a group more
+pub done-four : {f : ℕ → Value} {a n : ℕ} {out₀ out : List ℤ} {off g : ℕ} → Done f a n out₀ out off (4 * g) → g < n / 4
+    → {o1 o2 o3 o4 : List ℤ} {t1 t2 t3 t4 : ℕ} → Wrote f (4 * g + 0) out o1 t1 → Wrote f (4 * g + 1) o1 o2 t2 → Wrote f (4 * g + 2) o2 o3 t3 → Wrote f (4 * g + 3) o3 o4 t4
+    → Done f a n out₀ o4 (off + t1 + t2 + t3 + t4) (4 * (g + 1))
+done-four {g = g} d h w1 w2 w3 w4 =
+    let d1 = done-put d {i = 4 * g + 1} w1 (omega arith) (omega arith) (omega arith) in
+    let d2 = done-put d1 {i = 4 * g + 2} w2 (omega arith) (omega arith) (omega arith) in
+    let d3 = done-put d2 {i = 4 * g + 3} w3 (omega arith) (omega arith) (omega arith) in
+    done-put d3 w4 (omega arith) (omega arith) (omega arith)
 
 -- the contract of a loop, from its end: the words that are there are those of the whole groups
 pub loop-ends : (group per : ℕ) (word : List ℕ → ℕ → Value) (bs : List ℕ) {a n : ℕ} {out₀ out : List ℤ} {off k : ℕ} → a ≡ length bs / group * per → Done (word bs) a n out₀ out off k → n ≤ k

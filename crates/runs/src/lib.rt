@@ -4,7 +4,7 @@ ghost use Prim.Native.Nat.{min, _+_, _*_, _/_, _%_, _<_};
 ghost use lib.ListN.{length, set};
 ghost use Rattle.basis.specs.Digits.{written};
 ghost use Rattle.runs.specs.Words.{byteIn, groupExponent, groupWord, tableValue, plainValue, groupedValue};
-ghost use Rattle.runs.specs.Runs.{offOne, ran, filled};
+ghost use Rattle.runs.specs.Runs.{offOne, offs, numbers, over, ran, filled};
 use words::Value;
 
 // What a run came to: the samples that it wrote, and how many of their words are off rule.
@@ -38,12 +38,49 @@ fn put(out: &mut [i32], k: usize, w: Value)
     out[2 * k + 1] = x;
 }
 
+// The two bytes from i on, the least first: words are loaded whole, and turned round in functions of their own.
+fn little2(bytes: &[u8], i: usize) -> u16
+    requires { ⌜ i + 1 < length (now bytes) ⌝ }
+    ensures { λ r. ⌜ r % 256 ≡ byteIn (now (bytes .entry)) i ⌝ }
+    ensures { λ r. ⌜ r / 256 ≡ byteIn (now (bytes .entry)) (i + 1) ⌝ }
+{
+    (bytes[i] as u16) + (bytes[i + 1] as u16) * 256
+}
+
+// The four bytes from i on, the least first.
+fn little4(bytes: &[u8], i: usize) -> u32
+    requires { ⌜ i + 3 < length (now bytes) ⌝ }
+    ensures { λ r. ⌜ r % 256 ≡ byteIn (now (bytes .entry)) i ⌝ }
+    ensures { λ r. ⌜ r / 256 % 256 ≡ byteIn (now (bytes .entry)) (i + 1) ⌝ }
+    ensures { λ r. ⌜ r / 65536 % 256 ≡ byteIn (now (bytes .entry)) (i + 2) ⌝ }
+    ensures { λ r. ⌜ r / 16777216 ≡ byteIn (now (bytes .entry)) (i + 3) ⌝ }
+{
+    (bytes[i] as u32)
+        + (bytes[i + 1] as u32) * 256
+        + (bytes[i + 2] as u32) * 65536
+        + (bytes[i + 3] as u32) * 16777216
+}
+
+// A word of two bytes, turned round.
+fn swapped2(w: u16) -> u16
+    ensures { λ r. ⌜ r ≡ w % 256 * 256 + w / 256 ⌝ }
+{
+    w % 256 * 256 + w / 256
+}
+
+// A word of four bytes, turned round.
+fn swapped4(w: u32) -> u32
+    ensures { λ r. ⌜ r ≡ w % 256 * 16777216 + w / 256 % 256 * 65536 + w / 65536 % 256 * 256 + w / 16777216 ⌝ }
+{
+    w % 256 * 16777216 + w / 256 % 256 * 65536 + w / 65536 % 256 * 256 + w / 16777216
+}
+
 // The two bytes from i on.
 fn pair(bytes: &[u8], i: usize) -> u16
     requires { ⌜ i + 1 < length (now bytes) ⌝ }
     ensures { λ r. ⌜ r ≡ written 256 (byteIn (now (bytes .entry))) i 2 ⌝ }
 {
-    (bytes[i] as u16) * 256 + (bytes[i + 1] as u16)
+    swapped2(little2(bytes, i))
 }
 
 // The four bytes from i on.
@@ -51,7 +88,7 @@ fn four(bytes: &[u8], i: usize) -> u32
     requires { ⌜ i + 3 < length (now bytes) ⌝ }
     ensures { λ r. ⌜ r ≡ written 256 (byteIn (now (bytes .entry))) i 4 ⌝ }
 {
-    (pair(bytes, i) as u32) * 65536 + (pair(bytes, i + 2) as u32)
+    swapped4(little4(bytes, i))
 }
 
 // The exponent of word k of groups of 0015, in the lowest four bits.
@@ -68,6 +105,43 @@ fn fraction(bytes: &[u8], k: usize) -> u16
     ensures { λ r. ⌜ r ≡ groupWord (now (bytes .entry)) k ⌝ }
 {
     pair(bytes, 10 * (k / 4) + 2 + 2 * (k % 4))
+}
+
+// Writes sample j of group g of 0015, by the group's exponents; 1 if its word is off rule.
+fn sample15(bytes: &[u8], exponents: u32, g: usize, j: usize, out: &mut [i32]) -> usize
+    requires { ⌜ j < 4 ⌝ }
+    requires { ⌜ 10 * g + 9 < length (now bytes) ⌝ }
+    requires { ⌜ 2 * (4 * g + j) + 1 < length (now out) ⌝ }
+    requires { ⌜ exponents ≡ written 256 (byteIn (now bytes)) (10 * g) 2 ⌝ }
+    ensures { λ r. ⌜ r ≡ offOne (groupedValue 0x0015 (now (bytes .entry)) (4 * g + j)) ⌝ }
+    ensures { λ _. ⌜ now (out .exit) ≡ set (set (now (out .entry)) (2 * (4 * g + j)) (groupedValue 0x0015 (now (bytes .entry)) (4 * g + j) .m)) (2 * (4 * g + j) + 1) (groupedValue 0x0015 (now (bytes .entry)) (4 * g + j) .x) ⌝ }
+{
+    let w = words::value15(
+        exponents >> (12 - 4 * (j as u32)),
+        pair(bytes, 10 * g + 2 + 2 * j),
+    );
+    put(out, 4 * g + j, w);
+    count(0, w)
+}
+
+// The first groups of 0015, as far as n samples fill them: the exponents of a group are read once.
+fn groups(bytes: &[u8], n: usize, out: &mut [i32]) -> usize
+    requires { ⌜ n ≡ min (length (now bytes) / 10 * 4) (length (now out) / 2) ⌝ }
+    ensures { λ r. ⌜ r ≡ offs (groupedValue 0x0015 (now (bytes .entry))) (n / 4 * 4) ⌝ }
+    ensures { λ _. ⌜ now (out .exit) ≡ over (numbers (groupedValue 0x0015 (now (bytes .entry))) (n / 4 * 4)) (now (out .entry)) ⌝ }
+{
+    let mut off: usize = 0;
+    let mut g: usize = 0;
+    while g < n / 4 {
+        let exponents = pair(bytes, 10 * g) as u32;
+        let a = sample15(bytes, exponents, g, 0, out);
+        let b = sample15(bytes, exponents, g, 1, out);
+        let c = sample15(bytes, exponents, g, 2, out);
+        let d = sample15(bytes, exponents, g, 3, out);
+        off = off + a + b + c + d;
+        g += 1;
+    }
+    off
 }
 
 // Words of one byte, by the table lent.
@@ -156,8 +230,8 @@ pub fn groups15(bytes: &[u8], out: &mut [i32]) -> Ran
     ensures { λ r. ⌜ now (out .exit) ≡ filled 10 4 (groupedValue 0x0015) (now (bytes .entry)) (now (out .entry)) ⌝ }
 {
     let n = least(bytes.len() / 10 * 4, out.len() / 2);
-    let mut off: usize = 0;
-    let mut k: usize = 0;
+    let mut off = groups(bytes, n, out);
+    let mut k = n / 4 * 4;
     while k < n {
         let w = words::value15(exponent(bytes, k), fraction(bytes, k));
         off = count(off, w);

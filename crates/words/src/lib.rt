@@ -1,6 +1,7 @@
 // Sample words: the fraction, the exponent and the off-rule mark of a word in each of the six multiplexed codes.
 ghost use mathlib.Core.Path.{_≡_};
 ghost use Prim.Native.Nat.{_<_, _≤_, _^_, _*_, _+_, _-_, _%_};
+ghost use mathlib.Core.Bool.{_||_};
 ghost use lib.Dec.{ltb};
 ghost use Rattle.basis.specs.Fields.{field};
 ghost use Rattle.codes.specs.Codes.{Fit, row};
@@ -49,26 +50,24 @@ fn bits(word: u32, at: u32, size: u32) -> u32
     (word >> at) & ones(size)
 }
 
-// The magnitude that a negative fraction field keeps.
-fn magnitude(kind: Kind, n: u32, q: u32) -> u32
+// The sign's weight: what a set sign takes from Q, Q itself and the magnitude that it keeps.
+fn weight(kind: Kind, n: u32, q: u32) -> u32
     requires { ⌜ (n < 31) × (q < 2 ^ n) ⌝ }
-    ensures { λ r. ⌜ (r ≡ kept kind n q) × (r < 2 ^ n) ⌝ }
+    ensures { λ r. ⌜ (r ≡ q + kept kind n q) × (r < 2 ^ 31) ⌝ }
 {
     match kind {
-        Kind::OnesComplement => ones(n) - q,
-        Kind::SignMagnitude => q,
-        Kind::Justified => q,
+        Kind::OnesComplement => ones(n),
+        Kind::SignMagnitude => q + q,
+        Kind::Justified => q + q,
     }
 }
 
+// No branch: a sample's sign is predicted badly.
 fn fraction(kind: Kind, n: u32, s: u32, q: u32) -> i32
-    requires { ⌜ (n < 31) × (q < 2 ^ n) ⌝ }
+    requires { ⌜ (n < 31) × (s < 2) × (q < 2 ^ n) ⌝ }
     ensures { λ r. ⌜ r ≡ fractionOf kind n s q ⌝ }
 {
-    if s == 0 {
-        return basis::difference(q, 0);
-    }
-    basis::difference(0, magnitude(kind, n, q))
+    basis::difference(q, s * weight(kind, n, q))
 }
 
 fn power(base: u32, bias: u32, n: u32, e: u32) -> i32
@@ -86,10 +85,10 @@ fn last_bit(last: u32) -> bool
 }
 
 fn negative_zero(n: u32, s: u32, q: u32) -> bool
-    requires { ⌜ (n < 31) × (q < 2 ^ n) ⌝ }
+    requires { ⌜ (n < 31) × (s < 2) × (q < 2 ^ n) ⌝ }
     ensures { λ r. ⌜ r ≡ negativeZero n s q ⌝ }
 {
-    (s == 1) & (ones(n) - q == 0)
+    s + q == two_to(n)
 }
 
 fn all_ones(n: u32, b: u32, s: u32, e: u32, q: u32) -> bool
@@ -99,33 +98,27 @@ fn all_ones(n: u32, b: u32, s: u32, e: u32, q: u32) -> bool
     (s == 1) & ((e == ones(b)) & (q == ones(n)))
 }
 
-fn signed_zero(s: u32, e: u32, q: u32) -> bool
-    requires { ⌜ s + e < 2 ^ 31 ⌝ }
-    ensures { λ r. ⌜ r ≡ signedZero s e q ⌝ }
+// Both faults of a justified fraction: the word is not zero, and the first four bits of Q are.
+fn unjustified(n: u32, s: u32, e: u32, q: u32) -> bool
+    requires { ⌜ (4 ≤ n) × (n < 31) × (s + e < 2 ^ 31) × (q < 2 ^ n) ⌝ }
+    ensures { λ r. ⌜ r ≡ (signedZero s e q || notJustified n q) ⌝ }
 {
-    (q == 0) & (0 < s + e)
-}
-
-fn not_justified(n: u32, q: u32) -> bool
-    requires { ⌜ (4 ≤ n) × (n < 32) ⌝ }
-    ensures { λ r. ⌜ r ≡ notJustified n q ⌝ }
-{
-    (0 < q) & (bits(q, n - 4, 4) == 0)
+    (0 < s + e + q) & (q < two_to(n - 4))
 }
 
 fn kind_fault(kind: Kind, n: u32, b: u32, s: u32, e: u32, q: u32) -> bool
-    requires { ⌜ (4 ≤ n) × (n < 31) × (b < 32) × (s + e < 2 ^ 31) × (q < 2 ^ n) ⌝ }
+    requires { ⌜ (4 ≤ n) × (n < 31) × (b < 32) × (s < 2) × (s + e < 2 ^ 31) × (q < 2 ^ n) ⌝ }
     ensures { λ r. ⌜ r ≡ kindFault kind n b s e q ⌝ }
 {
     match kind {
         Kind::OnesComplement => negative_zero(n, s, q),
         Kind::SignMagnitude => all_ones(n, b, s, e, q),
-        Kind::Justified => signed_zero(s, e, q) | not_justified(n, q),
+        Kind::Justified => unjustified(n, s, e, q),
     }
 }
 
 fn off_rule(kind: Kind, n: u32, b: u32, last: u32, s: u32, e: u32, q: u32) -> bool
-    requires { ⌜ (4 ≤ n) × (n < 31) × (b < 32) × (s + e < 2 ^ 31) × (q < 2 ^ n) ⌝ }
+    requires { ⌜ (4 ≤ n) × (n < 31) × (b < 32) × (s < 2) × (s + e < 2 ^ 31) × (q < 2 ^ n) ⌝ }
     ensures { λ r. ⌜ r ≡ offRule kind n b last s e q ⌝ }
 {
     last_bit(last) | kind_fault(kind, n, b, s, e, q)

@@ -3,10 +3,11 @@
 use Prim.Native.Nat.{_-_, _*_, _/_}
 use mathlib.Core.Path.{refl, _∙_}
 use native.Mathlib.Omega.{arith}
+use borrow.Author.Needs.{needs}
 use denote.Ref.{now}
 use lib.ListN.{length}
 use Rattle.runs.specs.Words.{groupedValue}
-use Rattle.runs.proofs.Done.{Done, done-none, done-more, loop-ends}
+use Rattle.runs.proofs.Done.{Done, done-from, done-self, done-more, done-on, loop-ends}
 use Rattle.runs.proofs.groups15.Statement.{statement}
 use Rattle.runs.proofs.groups15.Tie as tie
 
@@ -22,8 +23,14 @@ mul-least c = omega arith
 least-requires : tie.Need-least-requires Inv-loop μ-loop
 least-requires c κs = tt
 
+groups-requires : tie.Need-groups-requires Inv-loop μ-loop
+groups-requires c κs = c .before .least .ensures
+
+mul-k : tie.Need-mul-k Inv-loop μ-loop
+mul-k c = omega arith
+
 loop-holds : tie.Need-loop-holds Inv-loop μ-loop
-loop-holds c = done-none _ _ _ _ (c .least .ensures)
+loop-holds c = done-self (done-from _ _ _ _ _ (c .before .before .before .least .ensures) (omega arith) (c .before .groups .ensures .0) (c .before .groups .ensures .1))
 
 exponent-requires : tie.Need-exponent-requires Inv-loop μ-loop
 exponent-requires c κs = omega arith
@@ -52,10 +59,14 @@ loop-again c =
     rw (c .before .put .ensures) (done-more (c .before .before .before .before .before .before .before .before .loop .inv) (c .before .before .before .before .before .before .before .loop-test .taken) (c .before .before .before .before .value15 .ensures ∙ rw (c .before .before .before .before .before .fraction .ensures, c .before .before .before .before .before .before .exponent .ensures)) (c .before .before .before .count .ensures))
 
 same-length : tie.Need-same-length Inv-loop μ-loop
-same-length c = c .before .loop .inv .same
+same-length c = search (needs, c .before .loop .inv .same)
 
 returns : tie.Need-returns Inv-loop μ-loop
-returns c = loop-ends 10 4 (groupedValue 0x0015) (now (c .before .before .before .before .args .bytes)) refl (c .before .loop .inv) (c .loop-test .left)
+returns c =
+    let o = c .before .before in
+    let z = o .before .before .before .before .before in
+    let p = done-from (groupedValue 0x0015 (now (z .args .bytes))) _ _ _ _ (o .before .before .before .least .ensures) (omega arith) (o .before .groups .ensures .0) (o .before .groups .ensures .1) in
+    loop-ends 10 4 (groupedValue 0x0015) (now (z .args .bytes)) refl (done-on p (c .before .loop .inv) (omega arith)) (c .loop-test .left)
 
 pub groups15-spec : {M : Type 1} → statement M
 groups15-spec =
@@ -65,6 +76,8 @@ groups15-spec =
     μ-loop
     mul-least
     least-requires
+    groups-requires
+    mul-k
     loop-holds
     exponent-requires
     fraction-requires

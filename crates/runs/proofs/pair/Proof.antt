@@ -1,46 +1,21 @@
 -- `runs::pair` meets its contract.
 -- Assumes nothing.
-use Prim.Native.Nat.{_+_}
-use mathlib.Core.Path.{sym}
-use native.Mathlib.Omega.{arith}
+use mathlib.Core.Path.{sym, _∙_}
 use Rattle.runs.proofs.Bytes.{written-two}
 use borrow.Author.Needs.{needs}
 use Rattle.runs.proofs.pair.Statement.{statement}
 use Rattle.runs.proofs.pair.Tie as tie
 
-shared-slice-read-result : tie.Need-shared-slice-read-result
-shared-slice-read-result c = search needs
+little2-requires : tie.Need-little2-requires
+little2-requires c κs = search needs
 
-cast-result : tie.Need-cast-result
-cast-result c = omega (arith, c .shared-slice-known .given (c .before .args .i))
-
-mul-result : tie.Need-mul-result
-mul-result c = omega (arith, c .shared-slice-known .given (c .before .args .i))
-
-add-result : tie.Need-add-result
-add-result c = search needs
-
-shared-slice-read-result-2 : tie.Need-shared-slice-read-result-2
-shared-slice-read-result-2 c = search needs
-
-cast-result-2 : tie.Need-cast-result-2
-cast-result-2 c = omega (arith, c .before .shared-slice-known .given (c .before .before .args .i), c .shared-slice-known2 .given (c .before .before .args .i + 1))
-
-add-result-2 : tie.Need-add-result-2
-add-result-2 c = omega (arith, c .before .shared-slice-known .given (c .before .before .args .i), c .shared-slice-known2 .given (c .before .before .args .i + 1))
+swapped2-requires : tie.Need-swapped2-requires
+swapped2-requires c κs = search needs
 
 returns : tie.Need-returns
-returns c = sym (written-two _ _)
+returns c =
+    let l = c .before .little2 .ensures in
+    c .swapped2 .ensures ∙ rw (l .0, l .1) (sym (written-two _ _))
 
 pub pair-spec : {M : Type 1} → statement M
-pair-spec =
-    tie.close
-    (tie.spec
-    shared-slice-read-result
-    cast-result
-    mul-result
-    add-result
-    shared-slice-read-result-2
-    cast-result-2
-    add-result-2
-    returns)
+pair-spec = tie.close (tie.spec little2-requires swapped2-requires returns)

@@ -19,11 +19,8 @@ all-ones-requires c κs = search needs
 enum-told-3 : tie.Need-enum-told-3
 enum-told-3 c = search needs
 
-signed-zero-requires : tie.Need-signed-zero-requires
-signed-zero-requires c κs = search needs
-
-not-justified-requires : tie.Need-not-justified-requires
-not-justified-requires c κs = search needs
+unjustified-requires : tie.Need-unjustified-requires
+unjustified-requires c κs = search needs
 
 returns : tie.Need-returns
 returns c = rw (c .before .enum-told .given .1) (c .negative-zero .ensures)
@@ -32,7 +29,7 @@ returns-2 : tie.Need-returns-2
 returns-2 c = rw (c .before .enum-told2 .given .1) (c .all-ones .ensures)
 
 returns-3 : tie.Need-returns-3
-returns-3 c = rw (c .before .before .enum-told3 .given .1, c .before .signed-zero .ensures, c .not-justified .ensures)
+returns-3 c = rw (c .before .enum-told3 .given .1) (c .unjustified .ensures)
 
 pub kind-fault-spec : {M : Type 1} → statement M
 kind-fault-spec =
@@ -43,8 +40,7 @@ kind-fault-spec =
     enum-told-2
     all-ones-requires
     enum-told-3
-    signed-zero-requires
-    not-justified-requires
+    unjustified-requires
     returns
     returns-2
     returns-3)

@@ -47,7 +47,9 @@ bits-requires-3 : tie.Need-bits-requires-3
 bits-requires-3 c κs = search needs
 
 fraction-requires : tie.Need-fraction-requires
-fraction-requires c κs = (omega arith, rw (c .bits3 .ensures) (field-below _ _ _ _ (search needs)))
+fraction-requires c κs =
+    let s : c .before .before .bits .result < 2 ^ 1 = rw (c .before .before .bits .ensures) (field-below _ _ _ 1 (omega arith)) in
+    (omega arith, omega arith, rw (c .bits3 .ensures) (field-below _ _ _ _ (search needs)))
 
 power-requires : tie.Need-power-requires
 power-requires c κs =
@@ -64,7 +66,7 @@ off-rule-requires c κs =
     let d = c .before .before .before in
     let e : d .before .bits2 .result < 2 ^ 7 = rw (d .before .bits2 .ensures) (field-below _ _ _ 7 (omega arith)) in
     let s : d .before .before .bits .result < 2 ^ 1 = rw (d .before .before .bits .ensures) (field-below _ _ _ 1 (omega arith)) in
-    (omega arith, omega arith, omega arith, omega arith, rw (d .bits3 .ensures) (field-below _ _ _ _ (search needs)))
+    (omega arith, omega arith, omega arith, omega arith, omega arith, rw (d .bits3 .ensures) (field-below _ _ _ _ (search needs)))
 
 returns : tie.Need-returns
 returns c =
