@@ -10,9 +10,9 @@ use borrow.Author.Tests.{eqb-true, eqb-false, ltb-true, ltb-false, leb-false, eq
 use Rattle.basis.specs.Choice.{pick, _and_, _or_}
 use Rattle.refusals.specs.declared.Refusal.the-variants.{Long, Block, Sync, Phase}
 use Rattle.refusals.specs.declared.Fault.the-variants.{Clear}
+use Rattle.refusals.proofs.Clears.{when-clear, first-clear}
 use Rattle.rules.specs.Scans.{dpOf, startWrong, phaseWrong, inScan}
 use Rattle.rules.specs.Faults.{wrongCount, scanFault, byteFault, endFault}
-use Rattle.general.proofs.Clears.{when-clear, first-clear}
 use Rattle.agree.proofs.Plans.{Plan, scan, shapeIn}
 use Rattle.agree.proofs.Tests.{clash, pos-test, bit-low}
 use Rattle.agree.proofs.Form.{Begun, sole, over, many, Inv, past}

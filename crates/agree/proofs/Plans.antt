@@ -11,13 +11,13 @@ use lib.Dec.{ltb}
 use borrow.Author.Tests.{ltb-true, ltb-false}
 use Rattle.basis.specs.Digits.{written}
 use Rattle.basis.specs.Fields.{field}
+use Rattle.basis.proofs.Digits.{Next, along, wrap, next}
 use Rattle.codes.specs.Codes.{groupOf, perOf, leadOf, wordBytesOf}
 use Rattle.words.specs.Words.{valueOf}
 use Rattle.layout.specs.Places.{groupBytes}
 use Rattle.rules.specs.Scans.{Shape}
 use Rattle.rules.specs.Samples.{doneBefore, valueAt}
 use Rattle.rules.proofs.Counts.{ended, ended-is, large}
-use Rattle.body.proofs.Digits.{Next, along, wrap, next}
 
 pub record Plan : Type 0 where
   pub code : ℕ

@@ -16,6 +16,7 @@ use Rattle.basis.specs.Choice.{pick, _and_, _or_}
 use Rattle.basis.specs.Digits.{written}
 use Rattle.basis.specs.Fields.{field}
 use Rattle.basis.specs.Upto.{upto, sumUpto, listUpto}
+use Rattle.basis.proofs.Digits.{Next, along, wrap, next}
 use Rattle.refusals.specs.declared.Refusal.{Refusal}
 use Rattle.refusals.specs.declared.Refusal.the-variants.{Long, Block, Sync, Timing, Phase}
 use Rattle.refusals.specs.declared.Fault.the-variants.{Clear, At}
@@ -30,7 +31,6 @@ use Rattle.scan.specs.Step as S
 use Rattle.rules.specs.Scans.{inScan, dpOf, phaseWrong, stepWrong}
 use Rattle.rules.specs.Faults.{scanFault, byteFault}
 use Rattle.rules.specs.Samples.{valueAt, numbersAt, offAt}
-use Rattle.body.proofs.Digits.{Next, along, wrap, next}
 use Rattle.agree.proofs.Plans.{Plan, per, lead, width, group, scan, shapeIn, samplesIn, Width, w2, Kind, singles, fours, samples-wrap, Grown, same, more, grown, inGroup, turn, groupStart, wordStart, value-now}
 use Rattle.agree.proofs.Tests.{Spot, start, fourth, time, nought, word, spot}
 use Rattle.agree.proofs.Form.{headOf, tail, low-same, leadEnd, exps, exps-next, trackAt, track-all, track-still, form, Inv, past, full-same, not-full, phased-same, marked-same, instep-same, timed-same}

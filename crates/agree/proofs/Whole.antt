@@ -40,7 +40,7 @@ use Rattle.rules.specs.Cuts.{Piece, spelled}
 use Rattle.rules.specs.Scans.{Shape}
 use Rattle.rules.specs.Faults.{byteFault, endFault}
 use Rattle.rules.specs.Outcome.{Report, Closing, refused, report, answered, stopPlace, stopOf, numbersOf, reportOf, closing, lastType, firstItb, firstWindow}
-use Rattle.rules.proofs.Uptos.{clear-at}
+use Rattle.refusals.proofs.Clears.{clear-at}
 use Rattle.rules.proofs.Tapes.{size-last}
 use Rattle.rules.proofs.Laws.{Halts, long, block, sync, timing, phase, halts-at, byte-halts, end-halts, stop-halts}
 use Rattle.rules.proofs.Machine.{Run, Still, Follows, feed, pieces, uncut, pieces-uncut, Ran, went, fell, ran-all}

@@ -1,4 +1,3 @@
-pub mod Digits
 pub mod Readers
 pub mod Spots
 pub mod Held

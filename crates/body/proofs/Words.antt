@@ -13,6 +13,7 @@ use lib.ListN.{length, getD}
 use Rattle.basis.specs.Choice.{pick}
 use Rattle.basis.specs.Digits.{written}
 use Rattle.basis.specs.Fields.{field}
+use Rattle.basis.proofs.Digits.{Next, along, wrap, next}
 use Rattle.codes.specs.Codes.{groupOf}
 use Rattle.words.specs.declared.Value.{Value}
 use Rattle.words.specs.Words.{valueOf}
@@ -23,7 +24,6 @@ use Rattle.scan.specs.declared.State.{State}
 use Rattle.scan.specs.declared.Stepped.{Stepped}
 use Rattle.scan.specs.Step.{step, word, plain, grouped, nibble, quiet, still, sample, moved, shift, low, counted}
 use Rattle.body.specs.Bulk.{Able, at}
-use Rattle.body.proofs.Digits.{Next, along, wrap, next}
 use Rattle.body.proofs.Held.{heldAt, held-low}
 use Rattle.body.proofs.Turns.{Turn, quietly, giving}
 

@@ -20,8 +20,8 @@ use Rattle.refusals.specs.declared.Refusal.the-variants.{Index, Sheet}
 use Rattle.refusals.specs.declared.Fault.{Fault}
 use Rattle.refusals.specs.declared.Fault.the-variants.{Clear, At}
 use Rattle.refusals.specs.Order.{when, orElse}
+use Rattle.refusals.proofs.Clears.{both-clear}
 use Rattle.general.specs.General.{intervalOf}
-use Rattle.general.proofs.Clears.{both-clear}
 use Rattle.sets.specs.declared.ChannelSet.{ChannelSet}
 use Rattle.sets.specs.ChannelSets.{channelSetOf}
 use Rattle.header.specs.declared.Header.{Header}

@@ -12,12 +12,12 @@ use borrow.Author.Tests.{leb-true, leb-false, eqb-true, not-false}
 use Rattle.basis.proofs.Choices.{and-true}
 use Rattle.refusals.specs.declared.Fault.the-variants.{Clear}
 use Rattle.refusals.specs.declared.Refusal.the-variants.{Short, Format, Demux, Digit, Range, Length}
+use Rattle.refusals.proofs.Clears.{when-clear, first-clear}
 use Rattle.codes.specs.declared.Row.{Row}
 use Rattle.codes.specs.declared.Found.{Found}
 use Rattle.codes.specs.declared.Found.the-variants.{At, Nothing}
 use Rattle.codes.specs.Codes.{rowOf, demultiplexed}
 use Rattle.general.specs.General.{codeOf, bytesPerScan, intervalOf, scanTypes, channelSets, unknown, generalDigits, within, timeInRange, isInterval, countsInRange, headerLength, generalFault}
-use Rattle.general.proofs.Clears.{when-clear, first-clear}
 
 -- a power of two up to 128
 pub record Step (i : ℕ) : Type 0 where

@@ -13,10 +13,10 @@ use borrow.Author.Tests.{eqb-true, not-false}
 use Rattle.basis.proofs.Choices.{and-true}
 use Rattle.refusals.specs.declared.Fault.the-variants.{Clear}
 use Rattle.refusals.specs.declared.Refusal.the-variants.{Size, Skew}
+use Rattle.refusals.proofs.Clears.{both-clear, when-clear, each-clear}
 use Rattle.codes.specs.Codes.{groupOf, perOf, bitsOf}
 use Rattle.codes.proofs.Rows.{groups}
 use Rattle.general.specs.General.{codeOf, bytesPerScan, intervalOf, scanTypes, channelSets, skewFields, extendedFields, externalFields, within, fieldsBefore, headerLength, generalFault}
-use Rattle.general.proofs.Clears.{both-clear, when-clear, each-clear}
 use Rattle.general.proofs.Kept.{General, Step, general-kept, general-multiplexed, within-is, or-true}
 use Rattle.sets.specs.Descriptors.{placeOf, setFault, descriptorsFault}
 use Rattle.sets.specs.Samples.{channelsOf, subscansOf, samplesOf}

@@ -10,8 +10,8 @@ use Rattle.basis.proofs.Choices.{and-true}
 use Rattle.refusals.specs.declared.Refusal.{Refusal}
 use Rattle.refusals.specs.declared.Fault.the-variants.{Clear}
 use Rattle.refusals.specs.Order.{when}
+use Rattle.refusals.proofs.Clears.{when-clear}
 use Rattle.general.specs.General.{scanTypes, channelSets, within}
-use Rattle.general.proofs.Clears.{when-clear}
 use Rattle.general.proofs.Kept.{within-is}
 use Rattle.header.specs.Faults.{headerFault}
 use Rattle.header.specs.Answers.{isSet}

@@ -14,11 +14,11 @@ use Rattle.refusals.specs.declared.Refusal.the-variants as refusals
 use Rattle.refusals.specs.declared.Fault.{Fault}
 use Rattle.refusals.specs.declared.Fault.the-variants.{Clear, At}
 use Rattle.refusals.specs.Order.{when}
+use Rattle.refusals.proofs.Clears.{both-clear}
 use Rattle.general.specs.General.{scanTypes, channelSets, within}
 use Rattle.sets.specs.Samples.{channelsOf, subscansOf, setSamples, samplesBefore, samplesOf}
 use Rattle.header.specs.Faults.{headerFault}
 use Rattle.header.specs.Answers.{isSet}
-use Rattle.general.proofs.Clears.{both-clear}
 use Rattle.general.proofs.Kept.{within-is}
 use Rattle.header.proofs.Accepted.{types-few, sets-few, multiplexed, samples-few}
 use Rattle.layout.specs.declared.Index.{Index}

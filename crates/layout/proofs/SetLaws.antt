@@ -10,7 +10,7 @@ use lib.Dec.{leb, ltb}
 use borrow.Author.Tests.{le-leb, lt-leb, ltb-true, ltb-false}
 use Rattle.basis.specs.Choice.{pick}
 use Rattle.basis.specs.Upto.{upto, sumUpto}
-use Rattle.basis.proofs.Uptos.{upto-more}
+use Rattle.basis.proofs.Uptos.{upto-more, sum-grows}
 use Rattle.layout.specs.Indexes.{passed, setAt}
 
 -- one number is below another, or not
@@ -23,14 +23,6 @@ split m n = by-test (ltb m n) refl
 
 pub sum-more : (f : ℕ → ℕ) (i : ℕ) → sumUpto f (i + 1) ≡ sumUpto f i + f i
 sum-more f i = upto-more _+_ 0 f i
-
-pub sum-mono : (f : ℕ → ℕ) (i j : ℕ) → i ≤ j → sumUpto f i ≤ sumUpto f j
-unfolding upto
-sum-mono f i zero h = let e : i ≡ 0 = omega arith in rw e (zero-le)
-sum-mono f i (suc j) h =
-    ⊎-elim (λ (e : i ≡ suc j). rw e (omega arith))
-    (λ (l : i < suc j). let k : i ≤ j = omega arith in omega (arith, sum-mono f i j k))
-    (eq-or-lt-of-le h)
 
 pub set-more : (f : ℕ → ℕ) (k i : ℕ) → setAt f k (i + 1) ≡ setAt f k i + pick (leb (sumUpto f (i + 1)) k) 1 0
 unfolding setAt passed
@@ -55,7 +47,7 @@ more f k n m h =
           ⊎-elim (λ (e : m ≡ n). rw e l) (λ (q : m < n). h .ends q) (eq-or-lt-of-le (let w : m ≤ n = omega arith in w));
     }))
     (λ (g : sumUpto f (n + 1) ≤ k).
-    let e : m ≡ n = ⊎-elim (λ (e : m ≡ n). e) (λ (q : m < n). absurd (omega (arith, h .ends q, sum-mono f (m + 1) (n + 1) (omega arith)))) (eq-or-lt-of-le (h .inside)) in
+    let e : m ≡ n = ⊎-elim (λ (e : m ≡ n). e) (λ (q : m < n). absurd (omega (arith, h .ends q, sum-grows f (m + 1) (n + 1) (omega arith)))) (eq-or-lt-of-le (h .inside)) in
     rw (le-leb _ _ g, e)
     (record { inside = omega arith; begins = g; ends = λ (p : n + 1 < suc n). absurd (omega arith) }))
     (split k (sumUpto f (n + 1)))
@@ -70,9 +62,9 @@ set-is : (f : ℕ → ℕ) (k n m : ℕ) → m < n → sumUpto f m ≤ k → k <
 set-is f k n m h p q =
     let a = set-at f k n in
     let x = setAt f k n in
-    ⊎-elim (λ (l : x < m). absurd (omega (arith, a .ends (omega arith), sum-mono f (x + 1) m (omega arith))))
+    ⊎-elim (λ (l : x < m). absurd (omega (arith, a .ends (omega arith), sum-grows f (x + 1) m (omega arith))))
     (λ (g : m ≤ x).
-    ⊎-elim (λ (e : m ≡ x). sym e) (λ (l : m < x). absurd (omega (arith, a .begins, sum-mono f (m + 1) x (omega arith)))) (eq-or-lt-of-le g))
+    ⊎-elim (λ (e : m ≡ x). sym e) (λ (l : m < x). absurd (omega (arith, a .begins, sum-grows f (m + 1) x (omega arith)))) (eq-or-lt-of-le g))
     (split x m)
 
 -- set m among n: its samples are those from sumUpto f m on
@@ -81,7 +73,7 @@ module _ (f : ℕ → ℕ) (n : ℕ) where
   set-of-sample m j h g = set-is f (sumUpto f m + j) n m h (omega arith) (omega (arith, sum-more f m))
 
   pub in-total : (m j : ℕ) → m < n → j < f m → sumUpto f m + j < sumUpto f n
-  in-total m j h g = omega (arith, sum-more f m, sum-mono f (m + 1) n (omega arith))
+  in-total m j h g = omega (arith, sum-more f m, sum-grows f (m + 1) n (omega arith))
 
   pub set-below : (k : ℕ) → k < sumUpto f n → setAt f k n < n
   set-below k h =

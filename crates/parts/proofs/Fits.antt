@@ -14,8 +14,8 @@ use Rattle.basis.specs.Choice.{pick}
 use Rattle.refusals.specs.declared.Fault.the-variants.{Clear}
 use Rattle.refusals.specs.declared.Refusal.the-variants.{Index, Sheet}
 use Rattle.refusals.specs.Order.{when}
+use Rattle.refusals.proofs.Clears.{both-clear}
 use Rattle.general.specs.General.{scanTypes, channelSets, skewFields, extendedFields, externalFields, headerLength, within}
-use Rattle.general.proofs.Clears.{both-clear}
 use Rattle.general.proofs.Kept.{within-is}
 use Rattle.sets.specs.Descriptors.{placeOf}
 use Rattle.sets.specs.Samples.{samplesOf}

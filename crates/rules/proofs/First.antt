@@ -8,10 +8,9 @@ use Rattle.refusals.specs.declared.Refusal.{Refusal}
 use Rattle.refusals.specs.declared.Fault.{Fault}
 use Rattle.refusals.specs.declared.Fault.the-variants.{Clear, At}
 use Rattle.refusals.specs.Order.{orElse, firstUpto}
-use Rattle.general.proofs.Clears.{both-clear, each-clear}
+use Rattle.refusals.proofs.Clears.{both-clear, each-clear, at-either, Found, found, first-at}
 use Rattle.rules.specs.Tape.{Body, ends, lengthOf, faultOf, bytesFault, endingFault, blockFault, firstFault}
 use Rattle.rules.specs.First.{CleanBytes, CleanBlocks, Stops, nowhere, atByte, atEnd}
-use Rattle.rules.proofs.Uptos.{at-either, Found, found, first-at}
 
 module _ (byteFault endFault : ℕ → ℕ → ℕ → Fault) (d : Body) where
   clean-bytes : (i n : ℕ) → firstUpto (faultOf byteFault endFault d i) n ≡ Clear → CleanBytes byteFault endFault d i n

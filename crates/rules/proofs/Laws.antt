@@ -15,7 +15,7 @@ use Rattle.rules.specs.First.{Stops, atByte, atEnd}
 use Rattle.rules.specs.Scans.{Shape}
 use Rattle.rules.specs.Faults.{byteFault, endFault}
 use Rattle.rules.specs.Outcome.{stopPlace, stopOf}
-use Rattle.rules.proofs.Uptos.{clear-at, at-either}
+use Rattle.refusals.proofs.Clears.{clear-at, at-either}
 use Rattle.rules.proofs.First.{first-fault}
 
 -- the refusals that stop a body at place p

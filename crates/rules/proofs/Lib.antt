@@ -1,4 +1,3 @@
-pub mod Uptos
 pub mod Tapes
 pub mod First
 pub mod Machine

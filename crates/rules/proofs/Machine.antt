@@ -17,7 +17,8 @@ use Rattle.refusals.specs.Order.{orElse, firstUpto}
 use Rattle.rules.specs.Tape.{Body, ends, blockOf, startOf, size, byteAt, bytesFault, blockFault, firstFault}
 use Rattle.rules.specs.Cuts.{Piece, portion, blockEnd, before, spelled}
 use Rattle.rules.specs.Outcome.{stopPlace}
-use Rattle.rules.proofs.Uptos.{upto-same, first-first}
+use Rattle.basis.proofs.Uptos.{upto-same}
+use Rattle.refusals.proofs.Clears.{first-first}
 use Rattle.rules.proofs.Tapes.{byte-in, last-block, size-last}
 
 -- a machine's state, and what it has put out so far

@@ -10,7 +10,7 @@ use lib.ListN.{length, getD, List·getD-append, List·getD-eq-default}
 use lib.Seq.{getD-append-add}
 use Rattle.basis.specs.Upto.{upto, sumUpto, listUpto}
 use Rattle.rules.specs.Tape.{Body, ends, blockOf, lengthOf, startOf, size, byteAt}
-use Rattle.rules.proofs.Uptos.{list-length, sum-grows}
+use Rattle.basis.proofs.Uptos.{list-length, sum-grows}
 
 joined-at : (f : ℕ → List ℕ) (n k m : ℕ) → k < n → m < length (f k) → getD (listUpto f n) (sumUpto (λ (i : ℕ). length (f i)) k + m) 0 ≡ getD (f k) m 0
 unfolding upto

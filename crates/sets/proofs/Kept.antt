@@ -12,10 +12,10 @@ use borrow.Author.Tests.{leb-true, eqb-true, eq-eqb, not-false}
 use Rattle.basis.specs.Upto.{upto}
 use Rattle.refusals.specs.declared.Fault.the-variants.{Clear}
 use Rattle.refusals.specs.declared.Refusal.the-variants.{Descriptor, Four}
+use Rattle.refusals.proofs.Clears.{when-clear, first-clear, each-clear}
 use Rattle.codes.specs.Codes.{perOf}
 use Rattle.block.specs.Bytes.{upper}
 use Rattle.general.specs.General.{codeOf, scanTypes, channelSets}
-use Rattle.general.proofs.Clears.{when-clear, first-clear, each-clear}
 use Rattle.sets.specs.Descriptors.{descriptorAt, descriptorHolds, fourHolds, setFault, scanTypeFault, descriptorsFault}
 use Rattle.sets.specs.Samples.{channelsOf, subscansOf, setSamples, samplesBefore}
 
