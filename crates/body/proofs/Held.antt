@@ -45,12 +45,12 @@ module _ (bs : List ℕ) (h : ℕ) (l : (i : ℕ) → getD bs i 0 < 256) where
       let e : length bs - 4 + 4 ≡ length bs = omega arith in
       sym (all-four (length bs) (omega arith)) ∙ (rw e at (held-low (length bs - 4) 4 (omega arith)))
 
--- two and four bytes, shifted in one after another
+-- two and four bytes, shifted in one after another; of four nothing is left that was there before
 module _ (bs : List ℕ) (l : (i : ℕ) → getD bs i 0 < 256) where
   pub two-shifts : (k : ℕ) → shift (shift 0 (getD bs k 0)) (getD bs (k + 1) 0) ≡ written 256 (byteIn bs) k 2
   unfolding written shift
   two-shifts k = rw add-zero (omega (arith, l k, l (k + 1)))
 
-  pub four-shifts : (k : ℕ) → shift (shift (shift (shift 0 (getD bs k 0)) (getD bs (k + 1) 0)) (getD bs (k + 2) 0)) (getD bs (k + 3) 0) ≡ written 256 (byteIn bs) k 4
+  pub four-shifts : (x k : ℕ) → shift (shift (shift (shift x (getD bs k 0)) (getD bs (k + 1) 0)) (getD bs (k + 2) 0)) (getD bs (k + 3) 0) ≡ written 256 (byteIn bs) k 4
   unfolding written shift
-  four-shifts k = rw add-zero (omega (arith, l k, l (k + 1), l (k + 2), l (k + 3)))
+  four-shifts x k = rw add-zero (omega (arith, l k, l (k + 1), l (k + 2), l (k + 3)))

@@ -3,6 +3,7 @@ pub mod Spots
 pub mod Held
 pub mod Turns
 pub mod Words
+pub mod Starts
 pub mod Whole
 pub mod Choose
 pub mod Parts

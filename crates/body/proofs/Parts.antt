@@ -1,9 +1,9 @@
 -- A part of a list that is written, and the list about it.
 -- Assumes nothing.
-use Prim.Native.Nat.{ℕ, _+_, _-_, _*_, _≤_}
-use mathlib.Core.Path.{_≡_, ap}
+use Prim.Native.Nat.{ℕ, _+_, _-_, _*_, _%_, _≤_}
+use mathlib.Core.Path.{_≡_, ap, _∙_}
 use mathlib.Core.List.{List, [], _++_, append-nil}
-use native.Mathlib.Nat.{min-le-left}
+use native.Mathlib.Nat.{min-le-left, zero-add, mod-add-mod}
 use native.Mathlib.Omega.{arith}
 use lib.IntN.{ℤ}
 use lib.ListN.{length, length-take, take, drop, length-drop, drop-of-length-le}
@@ -17,6 +17,12 @@ use Rattle.body.specs.Bulk.{Ahead, chunk}
 
 pub none-ahead : (s : State) (left : ℕ) → Ahead s left 0
 none-ahead s left = record { within = omega arith; able = λ h. absurd (omega arith) }
+
+-- a scan that is whole groups after its start is so from a group's first place on
+pub rest-whole : (scan q w : ℕ) → 8 ≤ q → q ≤ scan → (q - 8) % w ≡ 0 → (scan - 8) % w ≡ 0 → (scan - q) % w ≡ 0
+rest-whole scan q w lo hi p e =
+    let z : q - 8 + (scan - q) ≡ scan - 8 = omega arith in
+    (rw (p, z, zero-add) at (mod-add-mod (q - 8) w (scan - q))) ∙ e
 
 pub part-len : (bs : List ℕ) (i k : ℕ) → i + k ≤ length bs → length (take (i + k - i) (drop i bs)) ≡ k
 part-len bs i k h =

@@ -37,7 +37,7 @@ at-next : (s : State) (j off held e off′ e′ b : ℕ) → moved (at s j off h
 unfolding at moved
 at-next s j off held e off′ e′ b = rw (add-assoc (s .place) j 1, add-one)
 
-mod-on : (p i m : ℕ) → p % m + i < m → (p + i) % m ≡ p % m + i
+pub mod-on : (p i m : ℕ) → p % m + i < m → (p + i) % m ≡ p % m + i
 mod-on p i m h = sym (mod-add-mod p m i) ∙ mod-eq-of-lt h
 
 step-word : (t : State) (b q : ℕ) → t .stop ≡ 0 → t .place < 4294967295 → t .place % t .shape .scan ≡ q → 8 ≤ q → step t b ≡ word t b q

@@ -3,3 +3,4 @@ pub mod Calls
 pub mod Ends
 pub mod Bulk
 pub mod Spots
+pub mod Starts

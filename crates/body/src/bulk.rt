@@ -4,23 +4,32 @@ use crate::byte::shift;
 use runs::Ran;
 use scan::State;
 ghost use mathlib.Core.Path.{_≡_};
-ghost use Prim.Native.Nat.{_+_, _*_, _%_, _≤_, _<_};
+ghost use Prim.Native.Nat.{_+_, _-_, _*_, _%_, _≤_, _<_};
 ghost use lib.ListN.{length, take, drop};
+ghost use Rattle.basis.specs.Digits.{written};
 ghost use Rattle.codes.specs.Codes.{groupOf};
 ghost use Rattle.runs.specs.Runs as Runs;
+ghost use Rattle.runs.specs.Words.{byteIn};
 ghost use Rattle.scan.specs.Fit.{Fit};
 ghost use Rattle.scan.specs.Step.{wrote};
 ghost use Rattle.body.specs.Bulk as Bulk;
+
+// The four bytes from k on.
+pub(crate) fn four(bytes: &[u8], k: usize) -> u32
+    requires { ⌜ k + 4 ≤ length (now bytes) ⌝ }
+    ensures { λ r. ⌜ r ≡ written 256 (byteIn (now (bytes .entry))) k 4 ⌝ }
+{
+    let a = shift(0, bytes[k]);
+    let b = shift(a, bytes[k + 1]);
+    let c = shift(b, bytes[k + 2]);
+    shift(c, bytes[k + 3])
+}
 
 fn last_four(bytes: &[u8]) -> u32
     requires { ⌜ 4 ≤ length (now bytes) ⌝ }
     ensures { λ r. ⌜ r ≡ Bulk.lastFour (now (bytes .entry)) ⌝ }
 {
-    let n = bytes.len();
-    let a = shift(0, bytes[n - 4]);
-    let b = shift(a, bytes[n - 3]);
-    let c = shift(b, bytes[n - 2]);
-    shift(c, bytes[n - 1])
+    four(bytes, bytes.len() - 4)
 }
 
 fn last_exponents(w: u32, e: u32, bytes: &[u8]) -> u32
@@ -94,14 +103,36 @@ fn least(a: u32, b: usize) -> usize
     if n < b { n } else { b }
 }
 
-// The most bytes, up to k, that are whole groups: none where they are fewer than four.
-fn whole_groups(k: usize, w: u32) -> usize
-    requires { ⌜ 0 < w ⌝ }
-    ensures { λ r. ⌜ (r ≤ k) × (r % w ≡ 0) × (0 < r → 4 ≤ r) ⌝ }
+// The place in its group of w bytes that place q of a scan has. The first needs no division.
+fn phase(q: u32, w: u32) -> u32
+    requires { ⌜ (8 ≤ q) × (0 < w) ⌝ }
+    ensures { λ r. ⌜ r ≡ (q - 8) % w ⌝ }
 {
-    let u = w as usize;
-    let n = k - k % u;
-    if n < 4 { 0 } else { n }
+    if q == 8 {
+        return 0;
+    }
+    (q - 8) % w
+}
+
+// How many of k bytes are whole groups of the n next: all n need no division.
+fn groups_in(n: u32, k: usize, w: u32) -> usize
+    requires { ⌜ (0 < w) × (n % w ≡ 0) ⌝ }
+    ensures { λ r. ⌜ (r ≤ n) × (r ≤ k) × (r % w ≡ 0) ⌝ }
+{
+    let all = n as usize;
+    if all <= k {
+        return all;
+    }
+    k - k % (w as usize)
+}
+
+// The same, but none where they are fewer than four.
+fn whole_groups(n: u32, k: usize, w: u32) -> usize
+    requires { ⌜ (0 < w) × (n % w ≡ 0) ⌝ }
+    ensures { λ r. ⌜ (r ≤ n) × (r ≤ k) × (r % w ≡ 0) × (0 < r → 4 ≤ r) ⌝ }
+{
+    let r = groups_in(n, k, w);
+    if r < 4 { 0 } else { r }
 }
 
 // How many of the next bytes, of which there are `left`, are whole groups of the present scan.
@@ -116,13 +147,10 @@ pub(crate) fn ahead(s: State, w: u32, left: usize) -> usize
     if q < 8 {
         return 0;
     }
-    if (q - 8) % w != 0 {
+    if phase(q, w) != 0 {
         return 0;
     }
-    whole_groups(
-        least(s.shape.scan - q, least(4294967295 - s.place, left)),
-        w,
-    )
+    whole_groups(s.shape.scan - q, least(4294967295 - s.place, left), w)
 }
 
 // A run of k bytes from byte i, to n of `out`.

@@ -45,7 +45,7 @@ pub(crate) fn shift(held: u32, b: u8) -> u32
 }
 
 // One byte on.
-fn moved(s: State, k: Track, e: u32, off: u32, b: u8) -> State
+pub(crate) fn moved(s: State, k: Track, e: u32, off: u32, b: u8) -> State
     requires { ⌜ s .place < 4294967295 ⌝ }
     ensures { λ r. ⌜ r ≡ Step.moved s k e off b ⌝ }
 {
@@ -66,7 +66,7 @@ fn quiet(s: State, b: u8) -> Stepped
 }
 
 // Whether the block has all its scans: no byte may follow.
-fn full(h: Shape, place: u32, ends: u32) -> bool
+pub(crate) fn full(h: Shape, place: u32, ends: u32) -> bool
     requires { ⌜ 8 ≤ h .scan ⌝ }
     ensures { λ r. ⌜ r ≡ Step.full h place ends ⌝ }
 {
@@ -96,7 +96,7 @@ fn start(s: State, b: u8) -> Stepped
 }
 
 // Byte 4 of a scan tells its scan type, and that of the first scan ITB.
-fn marked(k: Track, b: u8) -> Track
+pub(crate) fn marked(k: Track, b: u8) -> Track
     requires { ⌜ k .seen ≤ 99 ⌝ }
     ensures { λ r. ⌜ r ≡ Step.marked k b ⌝ }
 {
@@ -115,7 +115,7 @@ fn marked(k: Track, b: u8) -> Track
 }
 
 // Whether DP of byte 4 may stand after the scan types seen.
-fn phased(k: Track, types: u32, b: u8) -> bool
+pub(crate) fn phased(k: Track, types: u32, b: u8) -> bool
     requires { ⌜ k .seen ≤ 99 ⌝ }
     ensures { λ r. ⌜ r ≡ Step.phased k types b ⌝ }
 {
@@ -141,7 +141,7 @@ fn mark(s: State, b: u8) -> Stepped
 }
 
 // Byte 8 tells the timing word, and of the first scan with TWI set the window's.
-fn timed(k: Track, held: u32, b: u8) -> Track
+pub(crate) fn timed(k: Track, held: u32, b: u8) -> Track
     ensures { λ r. ⌜ r ≡ Step.timed k held b ⌝ }
 {
     let mut t = k;
@@ -158,7 +158,7 @@ fn timed(k: Track, held: u32, b: u8) -> Track
 }
 
 // Whether byte 8 is zero, and the timing word the first or the last plus the advance.
-fn instep(s: State, b: u8) -> bool
+pub(crate) fn instep(s: State, b: u8) -> bool
     ensures { λ r. ⌜ r ≡ Step.instep s b ⌝ }
 {
     if b != 0 {

@@ -1,9 +1,9 @@
-// A portion of a fit state: its bytes one by one, whole words at once.
+// A portion of a fit state: its bytes one by one, scans' starts and whole words at once.
 use crate::Answer;
 use crate::Gave;
-use crate::bulk::ahead;
-use crate::bulk::run_at;
 use crate::byte::step;
+use crate::start::ahead_at;
+use crate::start::take_at;
 use codes::Found;
 use codes::Row;
 use refusals::Refusal;
@@ -63,7 +63,7 @@ fn put(out: &mut [i32], n: usize, w: Value)
     out[n + 1] = x;
 }
 
-// The bytes of a portion that has room: whole words at once where they lie ahead, else one byte. There is no other call of `step`.
+// The bytes of a portion that has room: a scan's start or whole words at once where they lie ahead, else one byte. There is no other call of `step`.
 fn feed(s: State, row: Row, table: &[u16; 256], bytes: &[u8], out: &mut [i32]) -> Gave
     requires { ⌜ Reads (s .shape .code) row (now table) ⌝ }
     requires { ⌜ Fit s ⌝ }
@@ -76,7 +76,7 @@ fn feed(s: State, row: Row, table: &[u16; 256], bytes: &[u8], out: &mut [i32]) -
     let mut n: usize = 0;
     let mut i: usize = 0;
     while i < bytes.len() {
-        let k = ahead(t, w, bytes.len() - i);
+        let k = ahead_at(t, w, bytes, i);
         if k == 0 {
             let r = step(t, row, table, bytes[i]);
             t = r.state;
@@ -87,7 +87,7 @@ fn feed(s: State, row: Row, table: &[u16; 256], bytes: &[u8], out: &mut [i32]) -
                 n += 2;
             }
         } else {
-            let r = run_at(t, w, table, bytes, i, k, out, n);
+            let r = take_at(t, w, table, bytes, i, k, out, n);
             t = r.state;
             i += k;
             n += r.wrote;

@@ -4,6 +4,7 @@ mod bulk;
 mod byte;
 mod ends;
 mod feed;
+mod start;
 
 use refusals::Refusal;
 use scan::State;
@@ -73,7 +74,7 @@ pub struct Closing {
     pub report: Report,
 }
 
-// A run of whole words: the state after it, and the numbers that it wrote.
+// Some bytes at once: the state after them, and the numbers that they wrote.
 struct Chunk {
     state: State,
     wrote: usize,

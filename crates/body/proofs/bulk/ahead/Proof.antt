@@ -1,10 +1,10 @@
 -- `body::bulk::ahead` meets its contract.
 -- Assumes nothing.
-use mathlib.Core.Path.{refl}
+use mathlib.Core.Path.{refl, sym, _∙_}
 use native.Mathlib.Nat.{mod-lt}
 use native.Mathlib.Omega.{arith}
 use Rattle.scan.proofs.Shapes.{shape-parts}
-use Rattle.body.proofs.Parts.{none-ahead}
+use Rattle.body.proofs.Parts.{none-ahead, rest-whole}
 use borrow.Author.Needs.{needs}
 use Rattle.body.proofs.bulk.ahead.Statement.{statement}
 use Rattle.body.proofs.bulk.ahead.Tie as tie
@@ -18,32 +18,32 @@ rem-q c = search needs
 returns-2 : tie.Need-returns-2
 returns-2 c = none-ahead _ _
 
-rem-if3 : tie.Need-rem-if3
-rem-if3 c =
+phase-requires : tie.Need-phase-requires
+phase-requires c κs =
     let z = c .before .before .before .before in
-    rw (← z .pre .1) (shape-parts (z .args .s .shape) (z .pre .0 .shape) .group)
+    (c .if2 .left, rw (← z .pre .1) (shape-parts (z .args .s .shape) (z .pre .0 .shape) .group))
 
 returns-3 : tie.Need-returns-3
 returns-3 c = none-ahead _ _
 
-sub-least : tie.Need-sub-least
-sub-least c =
-    let z = c .before .before .before .before .before .before in
+sub-whole-groups : tie.Need-sub-whole-groups
+sub-whole-groups c =
+    let z = c .before .before .before .before .before .before .before in
     omega (arith, mod-lt (z .args .s .place) {m = z .args .s .shape .scan} (omega (arith, z .pre .0 .scan)))
 
-sub-least-2 : tie.Need-sub-least-2
-sub-least-2 c = search needs
+sub-least : tie.Need-sub-least
+sub-least c = search needs
 
 least-requires : tie.Need-least-requires
 least-requires c κs = search needs
 
-least-requires-2 : tie.Need-least-requires-2
-least-requires-2 c κs = search needs
-
 whole-groups-requires : tie.Need-whole-groups-requires
 whole-groups-requires c κs =
     let z = c .before .before .before .before .before .before .before .before .before in
-    rw (← z .pre .1) (shape-parts (z .args .s .shape) (z .pre .0 .shape) .group)
+    let p = shape-parts (z .args .s .shape) (z .pre .0 .shape) in
+    let m = mod-lt (z .args .s .place) {m = z .args .s .shape .scan} (omega (arith, z .pre .0 .scan)) in
+    let f = sym (c .before .before .before .before .phase .ensures) ∙ c .before .before .before .if3 .left in
+    (rw (← z .pre .1) (p .group), rest-whole (z .args .s .shape .scan) _ (z .args .w) (c .before .before .before .before .before .if2 .left) (omega (arith, m)) f (rw (← z .pre .1) (p .whole)))
 
 returns-4 : tie.Need-returns-4
 returns-4 c =
@@ -51,19 +51,20 @@ returns-4 c =
     let s = z .args .s in
     let e = z .pre .1 in
     let m = mod-lt (s .place) {m = s .shape .scan} (omega (arith, z .pre .0 .scan)) in
+    let g = c .whole-groups .ensures in
     record {
-      within = omega (arith, c .whole-groups .ensures .0, c .before .least2 .ensures, c .before .before .least .ensures);
+      within = omega (arith, g .1, c .before .least .ensures);
       able =
           λ h. record {
             fit = z .pre .0;
             stop = c .before .before .before .before .before .before .before .before .if1 .left;
             width = refl;
             low = c .before .before .before .before .before .before .if2 .left;
-            high = omega (arith, m, c .whole-groups .ensures .0, c .before .least2 .ensures);
-            room = omega (arith, c .whole-groups .ensures .0, c .before .least2 .ensures, c .before .before .least .ensures, c .before .before .before .struct-known4 .given);
-            phase = rw e (c .before .before .before .before .before .if3 .left);
-            whole = rw e (c .whole-groups .ensures .1);
-            some = c .whole-groups .ensures .2 h;
+            high = omega (arith, m, g .0);
+            room = omega (arith, g .1, c .before .least .ensures, c .before .before .struct-known4 .given);
+            phase = rw e (sym (c .before .before .before .before .before .phase .ensures) ∙ c .before .before .before .before .if3 .left);
+            whole = rw e (g .2);
+            some = g .3 h;
           };
     }
 
@@ -74,11 +75,10 @@ ahead-spec =
     returns
     rem-q
     returns-2
-    rem-if3
+    phase-requires
     returns-3
+    sub-whole-groups
     sub-least
-    sub-least-2
     least-requires
-    least-requires-2
     whole-groups-requires
     returns-4)

@@ -3,7 +3,7 @@
 use Prim.Native.Nat.{ℕ, _-_}
 use mathlib.Core.Path.{_≡_, ap, sym, _∙_, subst}
 use Rattle.codes.specs.Codes.{groupOf}
-use Rattle.body.specs.Bulk.{Able}
+use Rattle.body.specs.Starts.{Takes}
 use Rattle.scan.proofs.Shapes.{shape-parts}
 use Rattle.body.proofs.Readers.{read-group}
 use Rattle.body.proofs.Choose.{ready}
@@ -33,15 +33,11 @@ loop-holds c =
     let z = c .before .before in
     going-start (now (z .args .bytes)) (now (z .args .out)) (z .args .s) (z .pre .1 .0)
 
-sub-ahead : tie.Need-sub-ahead Inv-loop μ-loop
-sub-ahead c =
-    omega arith
-
-ahead-requires : tie.Need-ahead-requires Inv-loop μ-loop
-ahead-requires c κs =
+ahead-at-requires : tie.Need-ahead-at-requires Inv-loop μ-loop
+ahead-at-requires c κs =
     let a = c .before in
     let g = a .before in
-    (a .loop .inv .fit, rw (a .loop .inv .shape) (read-group (g .before .before .pre .0) ∙ sym (g .group-in .ensures)))
+    (a .loop .inv .fit, rw (a .loop .inv .shape) (read-group (g .before .before .pre .0) ∙ sym (g .group-in .ensures)), a .loop .inv .in-bytes)
 
 shared-slice-read-step : tie.Need-shared-slice-read-step Inv-loop μ-loop
 shared-slice-read-step c =
@@ -92,33 +88,33 @@ loop-again-2 c =
     let z = a .before .before .before in
     going-quiet (now (z .args .bytes)) (now (z .args .out)) (z .args .s) (b .out) (b .t) (b .n) (b .i) (c .before .before .step .result) (b .inv) (c .before .before .before .before .before .before .loop-test .taken) (c .before .before .step .ensures) (c .if2 .left)
 
-run-at-requires : tie.Need-run-at-requires Inv-loop μ-loop
-run-at-requires c κs =
+take-at-requires : tie.Need-take-at-requires Inv-loop μ-loop
+take-at-requires c κs =
     let a = c .before .before .before .before in
     let b = a .loop in
     let g = a .before in
     let z = g .before .before in
-    let h = c .before .before .ahead .ensures in
+    let h = c .before .before .ahead-at .ensures in
     let e = c .before .if1 .left in
     let w : groupOf (b .t .shape .code) ≡ g .group-in .result = rw (b .inv .shape) (read-group (z .pre .0) ∙ sym (g .group-in .ensures)) in
     let d = ready (z .args .s .shape .code) (z .args .row) (now (z .args .table)) (z .pre .0) (shape-parts (z .args .s .shape) (z .pre .1 .0 .shape) .code) in
-    (rw (b .inv .shape, g .group-in .ensures) d, (subst (λ (x : ℕ). Able (b .t) x (c .before .before .ahead .result)) w (h .able (omega arith)), omega (arith, h .within, b .inv, z .pre .1 .1, c .before .before .before .loop-test .taken)))
+    (rw (b .inv .shape, g .group-in .ensures) d, ((b .inv .fit, subst (λ (x : ℕ). Takes (b .t) x (now (z .args .bytes)) (b .i) (c .before .before .ahead-at .result)) w (h .takes (omega arith))), omega (arith, h .within, b .inv, z .pre .1 .1, c .before .before .before .loop-test .taken)))
 
 add-i-2 : tie.Need-add-i-2 Inv-loop μ-loop
 add-i-2 c =
     let a = c .before .before .before .before .before .before .before in
     let b = a .loop in
     let z = a .before .before .before in
-    omega (arith, c .before .before .before .before .before .ahead .ensures .within, b .inv .in-bytes, z .good)
+    omega (arith, c .before .before .before .before .before .ahead-at .ensures .within, b .inv .in-bytes, z .good)
 
 add-n-2 : tie.Need-add-n-2 Inv-loop μ-loop
 add-n-2 c =
     let a = c .before .before .before .before .before .before .before .before in
     let b = a .loop in
     let z = a .before .before .before in
-    let h = c .before .before .before .before .before .before .ahead .ensures in
-    let r = c .before .before .before .run-at .ensures .0 in
-    let l = chunk-length (b .t) (now (z .args .bytes)) (b .i) (c .before .before .before .before .before .before .ahead .result) (c .before .before .before .run-at .result) r in
+    let h = c .before .before .before .before .before .before .ahead-at .ensures in
+    let r = c .before .before .before .take-at .ensures .0 in
+    let l = chunk-length (b .t) (now (z .args .bytes)) (b .i) (c .before .before .before .before .before .before .ahead-at .result) (c .before .before .before .take-at .result) r in
     omega (arith, l, h .within, b .inv, z .pre .1 .1, z .good, c .before .before .before .before .before .before .before .loop-test .taken)
 
 loop-less-3 : tie.Need-loop-less-3 Inv-loop μ-loop
@@ -126,7 +122,7 @@ loop-less-3 c =
     let a = c .before .before .before .before .before .before .before .before in
     let b = a .loop in
     let z = a .before .before .before in
-    let h = c .before .before .before .before .before .before .ahead .ensures .within in
+    let h = c .before .before .before .before .before .before .ahead-at .ensures .within in
     let e = c .before .before .before .before .before .if1 .left in
     omega (arith, h, e, c .before .before .before .before .before .before .before .loop-test .taken)
 
@@ -136,8 +132,8 @@ loop-again-3 c =
     let a = c .before .before .before .before .before .before .before .before in
     let b = a .loop in
     let z = a .before .before .before in
-    let h = c .before .before .before .before .before .before .ahead .ensures in
-    let r = c .before .before .before .run-at .ensures in
+    let h = c .before .before .before .before .before .before .ahead-at .ensures in
+    let r = c .before .before .before .take-at .ensures in
     going-chunk (now (z .args .bytes)) (now (z .args .out)) (z .args .s) (b .out) (b .t) (b .n) (b .i) _ (b .inv) (z .pre .1 .1) (omega (arith, h .within, c .before .before .before .before .before .before .before .loop-test .taken)) _ _ _ (ap (λ (x : Chunk). x .state) (r .0)) (ap (λ (x : Chunk). x .wrote) (r .0)) (r .1)
 
 answered-requires : tie.Need-answered-requires Inv-loop μ-loop
@@ -165,8 +161,7 @@ feed-spec =
     μ-loop
     group-in-requires
     loop-holds
-    sub-ahead
-    ahead-requires
+    ahead-at-requires
     shared-slice-read-step
     step-requires
     add-i
@@ -176,7 +171,7 @@ feed-spec =
     loop-again
     loop-less-2
     loop-again-2
-    run-at-requires
+    take-at-requires
     add-i-2
     add-n-2
     loop-less-3
