@@ -4,6 +4,7 @@ use Prim.Native.Nat.{ℕ, _≤_, _<_}
 use mathlib.Core.Path.{_≡_, sym, ap, _∙_}
 use mathlib.Core.List.{List}
 use native.Mathlib.Omega.{arith}
+use lib.IntN.{ℤ}
 use Rattle.codes.specs.declared.Row.{Row}
 use Rattle.codes.specs.declared.Found.the-variants.{At}
 use Rattle.codes.specs.Codes.{rowOf, groupOf, perOf, leadOf, wordBytesOf, bitsOf, groupIn, perIn, leadIn, wordBytesIn}
@@ -61,14 +62,14 @@ row-some code r e = rw (group-row code r e) (go (row-groups code r e))
     go (four x f g i j) = omega arith
     go (ten x f g i j) = omega arith
 
-module _ {code : ℕ} {r : Row} {xs : List ℕ} (d : Reads code r xs) where
+module _ {code : ℕ} {r : Row} {ts : List ℤ} (d : Reads code r ts) where
   pub read-group : groupOf code ≡ groupIn r
   read-group = group-row code r (d .row)
 
   pub read-pos : 0 < groupOf code
   read-pos = row-some code r (d .row)
 
-  pub read-value : (c w : ℕ) → valued (wordBy xs r c w) ≡ valueOf code c w
+  pub read-value : (c w : ℕ) → valued (wordBy ts r c w) ≡ valueOf code c w
   unfolding valueOf
   read-value c w = ap valued (d .word c w)
 

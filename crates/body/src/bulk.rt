@@ -60,7 +60,7 @@ fn ran_to(s: State, w: u32, bytes: &[u8], off: usize) -> State
 }
 
 // The loop of the code.
-fn by_code(code: u16, w: u32, table: &[u16; 256], bytes: &[u8], out: &mut [i32]) -> Ran
+fn by_code(code: u16, w: u32, table: &[i32], bytes: &[u8], out: &mut [i32]) -> Ran
     requires { ⌜ Bulk.Ready code w (now table) ⌝ }
     ensures { λ r. ⌜ r ≡ Runs.ran w (Bulk.perGroup w) (Bulk.valueIn code w) (now (bytes .entry)) (now (out .entry)) ⌝ }
     ensures { λ r. ⌜ now (out .exit) ≡ Runs.filled w (Bulk.perGroup w) (Bulk.valueIn code w) (now (bytes .entry)) (now (out .entry)) ⌝ }
@@ -81,7 +81,7 @@ fn by_code(code: u16, w: u32, table: &[u16; 256], bytes: &[u8], out: &mut [i32])
 }
 
 // A run of whole words.
-fn run(s: State, w: u32, table: &[u16; 256], bytes: &[u8], out: &mut [i32]) -> Chunk
+fn run(s: State, w: u32, table: &[i32], bytes: &[u8], out: &mut [i32]) -> Chunk
     requires { ⌜ Bulk.Ready (s .shape .code) w (now table) ⌝ }
     requires { ⌜ Bulk.Able s w (length (now bytes)) ⌝ }
     requires { ⌜ 2 * length (now bytes) ≤ length (now out) ⌝ }
@@ -157,7 +157,7 @@ pub(crate) fn ahead(s: State, w: u32, left: usize) -> usize
 pub(crate) fn run_at(
     s: State,
     w: u32,
-    table: &[u16; 256],
+    table: &[i32],
     bytes: &[u8],
     i: usize,
     k: usize,

@@ -265,7 +265,7 @@ fn width(w: u32) -> u32
 }
 
 // A byte of the sample words, q its place in the scan. There is no other call of `read`, so it is inlined here.
-fn word(s: State, row: Row, table: &[u16; 256], b: u8, q: u32) -> Stepped
+fn word(s: State, row: Row, table: &[i32], b: u8, q: u32) -> Stepped
     requires { ⌜ Reads (s .shape .code) row (now table) ⌝ }
     requires { ⌜ (s .place < 4294967295) × (s .off ≤ s .place) × (8 ≤ q) ⌝ }
     ensures { λ r. ⌜ r ≡ Step.word s b q ⌝ }
@@ -283,7 +283,7 @@ fn word(s: State, row: Row, table: &[u16; 256], b: u8, q: u32) -> Stepped
 }
 
 // One byte.
-pub(crate) fn step(s: State, row: Row, table: &[u16; 256], b: u8) -> Stepped
+pub(crate) fn step(s: State, row: Row, table: &[i32], b: u8) -> Stepped
     requires { ⌜ Reads (s .shape .code) row (now table) ⌝ }
     requires { ⌜ Fit s ⌝ }
     ensures { λ r. ⌜ r ≡ Step.step s b ⌝ }

@@ -2,6 +2,7 @@
 use crate::Answer;
 use crate::Gave;
 use crate::byte::step;
+use crate::entries::spell_code;
 use crate::start::ahead_at;
 use crate::start::take_at;
 use codes::Found;
@@ -9,11 +10,11 @@ use codes::Row;
 use refusals::Refusal;
 use scan::State;
 use words::Value;
-use words::tables::TABLE_22;
-use words::tables::TABLE_42;
 ghost use mathlib.Core.Path.{_≡_};
 ghost use Prim.Native.Nat.{_+_, _*_, _≤_, _<_};
 ghost use lib.ListN.{length, set};
+ghost use Rattle.codes.specs.declared.Found.the-variants.{At};
+ghost use Rattle.codes.specs.Codes.{rowOf};
 ghost use Rattle.words.specs.Entries.{Reads};
 ghost use Rattle.runs.specs.Runs.{over};
 ghost use Rattle.scan.specs.Fit.{Fit};
@@ -64,7 +65,7 @@ fn put(out: &mut [i32], n: usize, w: Value)
 }
 
 // The bytes of a portion that has room: a scan's start or whole words at once where they lie ahead, else one byte. There is no other call of `step`.
-fn feed(s: State, row: Row, table: &[u16; 256], bytes: &[u8], out: &mut [i32]) -> Gave
+fn feed(s: State, row: Row, table: &[i32], bytes: &[u8], out: &mut [i32]) -> Gave
     requires { ⌜ Reads (s .shape .code) row (now table) ⌝ }
     requires { ⌜ Fit s ⌝ }
     requires { ⌜ 2 * length (now bytes) ≤ length (now out) ⌝ }
@@ -101,7 +102,7 @@ fn feed(s: State, row: Row, table: &[u16; 256], bytes: &[u8], out: &mut [i32]) -
 }
 
 // An earlier stop, then ROOM.
-fn take(s: State, row: Row, table: &[u16; 256], bytes: &[u8], out: &mut [i32]) -> Gave
+fn take(s: State, row: Row, table: &[i32], bytes: &[u8], out: &mut [i32]) -> Gave
     requires { ⌜ Reads (s .shape .code) row (now table) ⌝ }
     requires { ⌜ Fit s ⌝ }
     ensures { λ r. ⌜ r ≡ Calls.taken s (now (bytes .entry)) (length (now (out .entry))) ⌝ }
@@ -123,7 +124,19 @@ fn take(s: State, row: Row, table: &[u16; 256], bytes: &[u8], out: &mut [i32]) -
     feed(s, row, table, bytes, out)
 }
 
-// The same, with the row and the table of the code, looked up once.
+// The same of words of one byte, with their table.
+fn by_bytes(s: State, row: Row, bytes: &[u8], out: &mut [i32]) -> Gave
+    requires { ⌜ (rowOf (s .shape .code) ≡ At row) × (row .width ≡ 8) ⌝ }
+    requires { ⌜ Fit s ⌝ }
+    ensures { λ r. ⌜ r ≡ Calls.taken s (now (bytes .entry)) (length (now (out .entry))) ⌝ }
+    ensures { λ r. ⌜ now (out .exit) ≡ over (Calls.kept s (now (bytes .entry)) (length (now (out .entry)))) (now (out .entry)) ⌝ }
+{
+    let mut t: [i32; 768] = [0; 768];
+    spell_code(s.shape.code, &mut t);
+    take(s, row, &t, bytes, out)
+}
+
+// The same of any words, with the row of the code, looked up once; no table where none is used.
 pub(crate) fn by_row(s: State, bytes: &[u8], out: &mut [i32]) -> Gave
     requires { ⌜ Fit s ⌝ }
     ensures { λ r. ⌜ r ≡ Calls.taken s (now (bytes .entry)) (length (now (out .entry))) ⌝ }
@@ -132,12 +145,11 @@ pub(crate) fn by_row(s: State, bytes: &[u8], out: &mut [i32]) -> Gave
     let found = codes::find(s.shape.code);
     match found {
         Found::At(row) => {
-            if s.shape.code == 0x0022 {
-                let t = TABLE_22;
-                return take(s, row, &t, bytes, out);
+            if row.width == 8 {
+                return by_bytes(s, row, bytes, out);
             }
-            let t = TABLE_42;
-            take(s, row, &t, bytes, out)
+            let none: [i32; 1] = [0; 1];
+            take(s, row, &none[..0], bytes, out)
         }
         Found::Nothing => Gave {
             state: s,

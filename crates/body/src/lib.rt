@@ -3,6 +3,7 @@ mod begin;
 mod bulk;
 mod byte;
 mod ends;
+mod entries;
 mod feed;
 mod start;
 

@@ -17,6 +17,7 @@ unique = record {
   read-word = λ κ a z z′ e e′. one-answer;
   read = λ κ a z z′ e e′. one-answer;
   by-byte = λ κ a z z′ e e′. one-answer;
+  by-entry = λ κ a z z′ e e′. one-answer;
   value15 = λ κ a z z′ e e′. one-answer;
   value24 = λ κ a z z′ e e′. one-answer;
   value44 = λ κ a z z′ e e′. one-answer;

@@ -12,6 +12,7 @@ use Rattle.codes.proofs.bits.Reads as codes-bits
 use Rattle.words.proofs.read_word.Reads as words-read-word
 use Rattle.words.proofs.read.Reads as words-read
 use Rattle.words.proofs.by_byte.Reads as words-by-byte
+use Rattle.words.proofs.by_entry.Reads as words-by-entry
 use Rattle.words.proofs.value15.Reads as words-value15
 use Rattle.words.proofs.value24.Reads as words-value24
 use Rattle.words.proofs.value44.Reads as words-value44
@@ -98,6 +99,7 @@ pub record Unique : Type 0 where
   pub read-word : OneAnswer words-read-word.Post
   pub read : OneAnswer words-read.Post
   pub by-byte : OneAnswer words-by-byte.Post
+  pub by-entry : OneAnswer words-by-entry.Post
   pub value15 : OneAnswer words-value15.Post
   pub value24 : OneAnswer words-value24.Post
   pub value44 : OneAnswer words-value44.Post

@@ -2,12 +2,13 @@
 -- Assumes nothing.
 use Prim.Native.Nat.{ℕ, _+_, _-_, _*_, _/_, _%_}
 use mathlib.Core.List.{List}
+use lib.IntN.{ℤ}
 use lib.ListN.{getD}
 use Rattle.basis.specs.Digits.{written}
 use Rattle.basis.specs.Fields.{field}
 use Rattle.words.specs.declared.Value.{Value}
 use Rattle.words.specs.Words.{valued, valueOf}
-use Rattle.words.specs.Entries.{tabled}
+use Rattle.words.specs.Entries.{spelled}
 
 -- byte i, from 0; 0 past the end
 abbrev pub byteIn : List ℕ → ℕ → ℕ
@@ -17,9 +18,9 @@ byteIn bs i = getD bs i 0
 unfoldable pub plainValue : ℕ → ℕ → List ℕ → ℕ → Value
 plainValue code w bs k = valueOf code 0 (written 256 (byteIn bs) (w * k) w)
 
--- a word of one byte, by a table
-unfoldable pub tableValue : List ℕ → List ℕ → ℕ → Value
-tableValue xs bs k = valued (tabled xs 0 (byteIn bs k))
+-- a word of one byte, by a table spelled out
+unfoldable pub tableValue : List ℤ → List ℕ → ℕ → Value
+tableValue ts bs k = valued (spelled ts 0 (byteIn bs k))
 
 -- groups of 0015, of ten bytes: "four c of 4 bits, then four of S Q14 0"; the exponent of word k
 unfoldable pub groupExponent : List ℕ → ℕ → ℕ

@@ -144,8 +144,8 @@ fn groups(bytes: &[u8], n: usize, out: &mut [i32]) -> usize
     off
 }
 
-// Words of one byte, by the table lent.
-pub fn bytes_by(table: &[u16; 256], bytes: &[u8], out: &mut [i32]) -> Ran
+// Words of one byte, by the table lent, spelled out.
+pub fn bytes_by(table: &[i32], bytes: &[u8], out: &mut [i32]) -> Ran
     ensures { λ r. ⌜ r ≡ ran 1 1 (tableValue (now (table .entry))) (now (bytes .entry)) (now (out .entry)) ⌝ }
     ensures { λ r. ⌜ now (out .exit) ≡ filled 1 1 (tableValue (now (table .entry))) (now (bytes .entry)) (now (out .entry)) ⌝ }
 {
@@ -153,7 +153,7 @@ pub fn bytes_by(table: &[u16; 256], bytes: &[u8], out: &mut [i32]) -> Ran
     let mut off: usize = 0;
     let mut k: usize = 0;
     while k < n {
-        let w = words::by_byte(table, bytes[k]);
+        let w = words::by_entry(table, bytes[k]);
         off = count(off, w);
         put(out, k, w);
         k += 1;

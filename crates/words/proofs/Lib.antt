@@ -1,3 +1,4 @@
 pub mod Parts
 pub mod Table
+pub mod Spelled
 pub mod Reader

@@ -5,7 +5,7 @@ ghost use mathlib.Core.Bool.{_||_};
 ghost use lib.Dec.{ltb};
 ghost use Rattle.basis.specs.Fields.{field};
 ghost use Rattle.codes.specs.Codes.{Fit, row};
-ghost use Rattle.words.specs.Entries.{unpackOf, tabled, wordBy};
+ghost use Rattle.words.specs.Entries.{unpackOf, tabled, marked, entryIn, spelled, wordBy};
 ghost use Rattle.words.specs.Words.{kept, fractionOf, powerOf, lastBit, negativeZero, allOnes, signedZero, notJustified, kindFault, offRule, sampleIn, wordIn, wordOf, valued, valueOf};
 use codes::Found;
 use codes::Kind;
@@ -250,11 +250,44 @@ fn worth(w: Word) -> Value
     }
 }
 
-fn word_by(row: Row, table: &[u16; 256], c: u32, word: u32) -> Word
+// Whether a mark is that of an off-rule word.
+fn is_marked(mark: i32) -> bool
+    ensures { λ r. ⌜ r ≡ marked mark ⌝ }
+{
+    if mark == 0 { false } else { true }
+}
+
+// A byte's entry in a table spelled out: M and X of each byte in turn, then the off-rule marks of all.
+fn entry(table: &[i32], b: usize) -> Word
+    requires { ⌜ b < 256 ⌝ }
+    ensures { λ r. ⌜ r ≡ entryIn (now (table .entry)) b ⌝ }
+{
+    if table.len() < 768 {
+        return Word::Refused(Refusal::Index);
+    }
+    let m = table[2 * b];
+    let x = table[2 * b + 1];
+    let off = is_marked(table[512 + b]);
+    Word::Sample { m, x, off }
+}
+
+// A one-byte word, by its code's table spelled out.
+fn by_entries(table: &[i32], c: u32, word: u32) -> Word
+    ensures { λ r. ⌜ r ≡ spelled (now (table .entry)) c word ⌝ }
+{
+    if c == 0 {
+        if word < 256 {
+            return entry(table, word as usize);
+        }
+    }
+    Word::Refused(Refusal::Index)
+}
+
+fn word_by(row: Row, table: &[i32], c: u32, word: u32) -> Word
     ensures { λ r. ⌜ r ≡ wordBy (now (table .entry)) row c word ⌝ }
 {
     if row.width == 8 {
-        return by_table(table, c, word);
+        return by_entries(table, c, word);
     }
     if codes::sound(row) {
         of_row(row, c, word)
@@ -263,8 +296,8 @@ fn word_by(row: Row, table: &[u16; 256], c: u32, word: u32) -> Word
     }
 }
 
-// A word's sample, by its code's row, and by the table lent where the row's words are of one byte.
-pub fn read(row: Row, table: &[u16; 256], c: u32, word: u32) -> Value
+// A word's sample, by its code's row, and by the table lent, spelled out, where the row's words are of one byte.
+pub fn read(row: Row, table: &[i32], c: u32, word: u32) -> Value
     ensures { λ r. ⌜ r ≡ valued (wordBy (now (table .entry)) row c word) ⌝ }
 {
     worth(word_by(row, table, c, word))
@@ -275,6 +308,13 @@ pub fn by_byte(table: &[u16; 256], b: u8) -> Value
     ensures { λ r. ⌜ r ≡ valued (tabled (now (table .entry)) 0 b) ⌝ }
 {
     worth(by_table(table, 0, b as u32))
+}
+
+// The same by the table spelled out, whose numbers are not taken apart.
+pub fn by_entry(table: &[i32], b: u8) -> Value
+    ensures { λ r. ⌜ r ≡ valued (spelled (now (table .entry)) 0 b) ⌝ }
+{
+    worth(by_entries(table, 0, b as u32))
 }
 
 // A word of 0015, with the exponent in the lowest four bits of c.

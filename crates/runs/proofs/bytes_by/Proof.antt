@@ -23,11 +23,11 @@ least-requires c κs = tt
 loop-holds : tie.Need-loop-holds Inv-loop μ-loop
 loop-holds c = done-none _ _ _ _ (c .least .ensures)
 
-shared-slice-read-by-byte : tie.Need-shared-slice-read-by-byte Inv-loop μ-loop
-shared-slice-read-by-byte c = omega arith
+shared-slice-read-by-entry : tie.Need-shared-slice-read-by-entry Inv-loop μ-loop
+shared-slice-read-by-entry c = omega arith
 
-by-byte-requires : tie.Need-by-byte-requires Inv-loop μ-loop
-by-byte-requires c κs = tt
+by-entry-requires : tie.Need-by-entry-requires Inv-loop μ-loop
+by-entry-requires c κs = tt
 
 count-requires : tie.Need-count-requires Inv-loop μ-loop
 count-requires c κs = omega arith
@@ -44,7 +44,7 @@ loop-less c = omega arith
 loop-again : tie.Need-loop-again Inv-loop μ-loop
 unfolding tableValue
 loop-again c =
-    rw (c .before .put .ensures) (done-more (c .before .before .before .before .before .before .before .loop .inv) (c .before .before .before .before .before .before .loop-test .taken) (c .before .before .before .before .by-byte .ensures) (c .before .before .before .count .ensures))
+    rw (c .before .put .ensures) (done-more (c .before .before .before .before .before .before .before .loop .inv) (c .before .before .before .before .before .before .loop-test .taken) (c .before .before .before .before .by-entry .ensures) (c .before .before .before .count .ensures))
 
 same-length : tie.Need-same-length Inv-loop μ-loop
 same-length c = c .before .loop .inv .same
@@ -62,8 +62,8 @@ bytes-by-spec =
     μ-loop
     least-requires
     loop-holds
-    shared-slice-read-by-byte
-    by-byte-requires
+    shared-slice-read-by-entry
+    by-entry-requires
     count-requires
     put-requires
     add-k
