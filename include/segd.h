@@ -54,19 +54,20 @@ enum {
     SEGD_FORMAT = 2,     /* the format code is not among the twelve */
     SEGD_DEMUX = 3,      /* it is one of the six 80xx: a demultiplexed record */
     SEGD_DIGIT = 4,      /* a digit of the general header is above 9 */
-    SEGD_RANGE = 5,      /* a value of the general header is out of its range */
+    SEGD_RANGE = 5,      /* a value of the general header is out of its range, or the upper half of byte 12 is not zero */
     SEGD_LENGTH = 6,     /* the block has not 32 x [1 + ST/R x (CS + SK) + EC + EX] bytes */
     SEGD_DESCRIPTOR = 7, /* a rule of a descriptor is broken; first: scan type, second: set. 7, then 8, of one descriptor after the other */
     SEGD_FOUR = 8,       /* code 0015, and the set's channels do not divide by 4; first: scan type, second: set */
     SEGD_SIZE = 9,       /* the bytes per scan are not those of the channels; first: the first such scan type */
     SEGD_SKEW = 10,      /* the skew fields are neither none nor as many as the samples of a scan need */
     /* questions */
-    SEGD_INDEX = 11,     /* no such scan type, set, channel, subscan, sample or T; a word or exponent wider than its code's */
+    SEGD_INDEX = 11,     /* no such scan type, set, channel, subscan or sample; T of 2^24 or more; a word or c wider than its code's */
     SEGD_SHEET = 12,     /* the crew's sheet is used, and has not S/S bytes for each scan type */
     /* the body: 14 to 18 stop it, and first is the place of the byte (of a block end: how many bytes came before) */
     SEGD_ROOM = 13,      /* `out` has less than two numbers for each byte; nothing is read, the state is as it was */
     SEGD_LONG = 14,      /* a byte at place 4,294,967,295 */
-    SEGD_BLOCK = 15,     /* a block end in a scan, on an empty block or after a wrong number of scans; a byte past a block's last scan */
+    SEGD_BLOCK = 15,     /* a block end in a scan, on an empty block or after a wrong number of scans; a byte past a block's last scan
+                            or past the end of a one-block body */
     SEGD_SYNC = 16,      /* a start byte of a scan is wrong: not FF FF FF and a byte whose last two bits are 01 */
     SEGD_TIMING = 17,    /* byte 8 of a scan is not zero, or T is not the last T plus 16 I (from 2^24 on it starts again); told at byte 8 */
     SEGD_PHASE = 18,     /* the scan type's bit DP is set in the first scan, or flips past the last scan type; told at byte 4 */
@@ -184,8 +185,8 @@ typedef struct {
     uint16_t low_cut;         /* 17-18: in Hz */
     uint16_t low_cut_slope;   /* 19-20: in dB per octave; 0: the filter is out */
     uint16_t first_notch;     /* 21-22: in 0.1 Hz; 0: the filter is out */
-    uint16_t second_notch;    /* 23-24 */
-    uint16_t third_notch;     /* 25-26 */
+    uint16_t second_notch;    /* 23-24: likewise */
+    uint16_t third_notch;     /* 25-26: likewise */
 } SegdSet;
 
 typedef struct {
@@ -363,7 +364,8 @@ SegdGave segd_portion(SegdState state, const uint8_t *bytes, size_t length, int3
 
 /*
  * Says that a block of the body ends here. One is due after each block, the last too. `samples` is 0.
- * Refuses STATE 23; then answers an earlier stop again: each time with the state as it was. Then it stops by BLOCK 15.
+ * Refuses STATE 23; then answers an earlier stop again: each time with the state as it was. Then it stops by BLOCK 15 where no end is
+ * due: in a scan, on an empty block or after a wrong number of scans.
  */
 SegdGave segd_block_end(SegdState state);
 
@@ -373,7 +375,7 @@ typedef struct {
     uint32_t off;          /* off-rule words */
     uint64_t samples;
     uint32_t last_type;    /* the scan type of the last scan */
-    uint32_t itb_known;    /* 1; or 0: there is no scan to tell ITB */
+    uint32_t itb_known;    /* 1 in every report, which has a scan to tell ITB; 0 where the closing is refused */
     uint32_t itb;          /* ITB of the first scan: 1 or 0 */
     uint32_t window_known; /* 1; or 0: no scan had TWI set */
     uint32_t window;       /* T of the first scan that had, in 1/256 ms */

@@ -3,18 +3,13 @@
 //! A module for each topic. What is compared is counted in groups; a group
 //! passes if no answer in it differs and every answer it is about came up.
 
-#[cfg(feature = "body")]
 pub mod body;
-#[cfg(feature = "header")]
 pub mod header;
 pub mod inputs;
 pub mod listings;
-#[cfg(feature = "parts")]
 pub mod parts;
-#[cfg(feature = "places")]
 pub mod places;
 pub mod program;
-#[cfg(feature = "skew")]
 pub mod skew;
 pub mod words;
 
@@ -210,17 +205,12 @@ impl Results {
     }
 }
 
-/// Compares all that the library has.
+/// Compares every call of the library.
 pub fn library(results: &mut Results, effort: Effort) {
     words::compare(results, effort);
-    #[cfg(feature = "header")]
     header::compare(results, effort);
-    #[cfg(feature = "places")]
     places::compare(results, effort);
-    #[cfg(feature = "parts")]
     parts::compare(results, effort);
-    #[cfg(feature = "skew")]
     skew::compare(results, effort);
-    #[cfg(feature = "body")]
     body::compare(results, effort);
 }

@@ -2,18 +2,13 @@
 //! compiled lister.
 //!
 //! A module for each group of calls. The structs mirror those of
-//! `crates/deck/src/lib.rt`, field by field.
+//! `crates/deck/src` and of the crates below it, field by field.
 
-#[cfg(feature = "body")]
 pub mod body;
-#[cfg(feature = "header")]
 pub mod header;
 pub mod lister;
-#[cfg(feature = "parts")]
 pub mod parts;
-#[cfg(feature = "places")]
 pub mod places;
-#[cfg(feature = "skew")]
 pub mod skew;
 pub mod words;
 

@@ -3,8 +3,9 @@
 
 use conformance::make::bodies::{damaged_body, sound_body};
 use conformance::make::calls::{cut, in_one};
-use conformance::make::headers::{any_code, damaged_header, header, sheet, small_plan, wide_plan};
-use conformance::make::headers::{Plan, Set};
+use conformance::make::headers::{
+    any_code, damaged_header, header, plain, set, sheet, small_plan, wide_plan, Plan,
+};
 use conformance::make::images::{any_reel, reel};
 use conformance::make::questions::{any_sheet, any_word, near};
 use conformance::make::records::{
@@ -64,26 +65,6 @@ fn l_with(first: usize, bytes: &str) -> Vec<u8> {
     let bytes = hex(bytes);
     block[first - 1..first - 1 + bytes.len()].copy_from_slice(&bytes);
     block
-}
-
-fn set(channels: u32, exponent: u32) -> Set {
-    Set { channels, exponent }
-}
-
-/// A plan with the skew recorded and nothing else but descriptors.
-fn plain(code: u16, scan_types: Vec<Vec<Set>>) -> Plan {
-    let mut plan = Plan {
-        code,
-        scan_types,
-        skew_fields: 0,
-        extended_fields: 0,
-        external_fields: 0,
-        interval: 32,
-        block_exponent: 0,
-        block_scans: 0,
-    };
-    plan.skew_fields = plan.full_skew();
-    plan
 }
 
 /// The paper's 4, 96 and 12 channels, the last sampled four times, in 0015.

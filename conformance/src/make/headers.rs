@@ -47,6 +47,30 @@ impl Plan {
     }
 }
 
+/// I of a base scan interval of 2 ms, in 1/16 ms.
+const TWO_MS: u8 = 32;
+
+pub fn set(channels: u32, exponent: u32) -> Set {
+    Set { channels, exponent }
+}
+
+/// A plan at 2 ms, with skew and without extras, as the paper's examples are.
+/// Its body is one block.
+pub fn plain(code: u16, scan_types: Vec<Vec<Set>>) -> Plan {
+    let mut plan = Plan {
+        code,
+        scan_types,
+        skew_fields: 0,
+        extended_fields: 0,
+        external_fields: 0,
+        interval: TWO_MS,
+        block_exponent: 0,
+        block_scans: 0,
+    };
+    plan.skew_fields = plan.full_skew();
+    plan
+}
+
 fn half_bytes(code: u16) -> u32 {
     match code {
         0x0015 => 5,

@@ -1,36 +1,12 @@
 //! Long records: sizes and changes that records drawn at random never have.
 
 use super::bodies::even_body;
-use super::headers::{header, Plan, Set};
+use super::headers::{header, plain, set, Plan};
 use super::rng::Rng;
 use crate::reader::body::Body;
 
 /// A header block and its body.
 pub type Record = (Vec<u8>, Body);
-
-/// I of a base scan interval of 2 ms, in 1/16 ms.
-const TWO_MS: u8 = 32;
-
-fn set(channels: u32, exponent: u32) -> Set {
-    Set { channels, exponent }
-}
-
-/// A plan at 2 ms, with skew and without extras, as the paper's examples are.
-/// Its body is one block.
-fn plan(code: u16, scan_types: Vec<Vec<Set>>) -> Plan {
-    let mut plan = Plan {
-        code,
-        scan_types,
-        skew_fields: 0,
-        extended_fields: 0,
-        external_fields: 0,
-        interval: TWO_MS,
-        block_exponent: 0,
-        block_scans: 0,
-    };
-    plan.skew_fields = plan.full_skew();
-    plan
-}
 
 fn record(rng: &mut Rng, plan: &Plan, scans: usize) -> Record {
     let block = header(rng, plan);
@@ -39,7 +15,7 @@ fn record(rng: &mut Rng, plan: &Plan, scans: usize) -> Record {
 
 /// A shot of 90 s at 2 ms: T starts again after 65,536 ms.
 pub fn long_shot(rng: &mut Rng, code: u16, channels: u32) -> Record {
-    record(rng, &plan(code, vec![vec![set(channels, 0)]]), 45_000)
+    record(rng, &plain(code, vec![vec![set(channels, 0)]]), 45_000)
 }
 
 /// The paper's example 6: twelve channels at half a millisecond, and from
@@ -47,13 +23,13 @@ pub fn long_shot(rng: &mut Rng, code: u16, channels: u32) -> Record {
 pub fn switched_interval(rng: &mut Rng, code: u16, scans: usize) -> Record {
     let first = vec![set(4, 0), set(6, 2), set(6, 2)];
     let second = vec![set(4, 0), set(48, 0), set(0, 0)];
-    record(rng, &plan(code, vec![first, second]), scans)
+    record(rng, &plain(code, vec![first, second]), scans)
 }
 
 /// The paper's E9, with the sets of its E2: blocks of 173 x 2^2 scans, which are
 /// of 378 bytes in 0015.
 pub fn large_blocks(rng: &mut Rng, code: u16, blocks: usize) -> Record {
-    let gapless = plan(code, vec![vec![set(4, 0), set(96, 0), set(12, 2)]]);
+    let gapless = plain(code, vec![vec![set(4, 0), set(96, 0), set(12, 2)]]);
     let plan = Plan { block_exponent: 2, block_scans: 173, ..gapless };
     record(rng, &plan, blocks * 173 * 4)
 }
@@ -61,6 +37,6 @@ pub fn large_blocks(rng: &mut Rng, code: u16, blocks: usize) -> Record {
 /// Scans of 999,999 bytes, the longest there can be. Their skew is too long to be
 /// recorded.
 pub fn longest_scans(rng: &mut Rng, scans: usize) -> Record {
-    let recorded = plan(0x0022, vec![vec![set(1_953, 9), set(55, 0)]]);
+    let recorded = plain(0x0022, vec![vec![set(1_953, 9), set(55, 0)]]);
     record(rng, &Plan { skew_fields: 0, ..recorded }, scans)
 }
