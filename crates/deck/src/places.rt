@@ -113,14 +113,14 @@ fn part(fault: Fault, offset: usize, length: usize) -> SegdPart
 pub extern "C" fn segd_constants(block: &[u8]) -> SegdPart
     ensures { λ r. ⌜ r ≡ flatPart (headerFault (now (block .entry))) 4 6 ⌝ }
 {
-    part(parts::part_refusal(block), 4, 6)
+    part(header::header_fault(block), 4, 6)
 }
 
 #[no_mangle]
 pub extern "C" fn segd_extended(block: &[u8]) -> SegdPart
     ensures { λ r. ⌜ r ≡ flatPart (headerFault (now (block .entry))) (extendedPlace (now (block .entry))) (32 * extendedFields (now (block .entry))) ⌝ }
 {
-    let fault = parts::part_refusal(block);
+    let fault = header::header_fault(block);
     part(
         fault,
         parts::extended_place(block),
@@ -132,7 +132,7 @@ pub extern "C" fn segd_extended(block: &[u8]) -> SegdPart
 pub extern "C" fn segd_external(block: &[u8]) -> SegdPart
     ensures { λ r. ⌜ r ≡ flatPart (headerFault (now (block .entry))) (externalPlace (now (block .entry))) (32 * externalFields (now (block .entry))) ⌝ }
 {
-    let fault = parts::part_refusal(block);
+    let fault = header::header_fault(block);
     let start = parts::extended_place(block) + 32 * pair_at(block, 31) as usize;
     part(fault, start, 32 * pair_at(block, 32) as usize)
 }

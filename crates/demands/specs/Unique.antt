@@ -33,15 +33,16 @@ use Rattle.sets.proofs.descriptors_fault.Reads as sets-descriptors-fault
 use Rattle.sets.proofs.channels.Reads as sets-channels
 use Rattle.sets.proofs.subscans.Reads as sets-subscans
 use Rattle.sets.proofs.samples_before.Reads as sets-samples-before
+use Rattle.sets.proofs.samples.Reads as sets-samples
 use Rattle.sets.proofs.channel_set.Reads as sets-channel-set
 use Rattle.header.proofs.header_fault.Reads as header-header-fault
+use Rattle.header.proofs.is_set.Reads as header-is-set
 use Rattle.header.proofs.read_header.Reads as header-read-header
 use Rattle.header.proofs.descriptor.Reads as header-descriptor
 use Rattle.layout.proofs.is_scan_type.Reads as layout-is-scan-type
 use Rattle.layout.proofs.sample_index.Reads as layout-sample-index
 use Rattle.layout.proofs.place_fault.Reads as layout-place-fault
 use Rattle.layout.proofs.sample_place.Reads as layout-sample-place
-use Rattle.parts.proofs.part_refusal.Reads as parts-part-refusal
 use Rattle.parts.proofs.constants.Reads as parts-constants
 use Rattle.parts.proofs.extended_place.Reads as parts-extended-place
 use Rattle.parts.proofs.extended.Reads as parts-extended
@@ -120,15 +121,16 @@ pub record Unique : Type 0 where
   pub channels : OneAnswer sets-channels.Post
   pub subscans : OneAnswer sets-subscans.Post
   pub samples-before : OneAnswer sets-samples-before.Post
+  pub samples : OneAnswer sets-samples.Post
   pub channel-set : OneAnswer sets-channel-set.Post
   pub header-fault : OneAnswer header-header-fault.Post
+  pub is-set : OneAnswer header-is-set.Post
   pub read-header : OneAnswer header-read-header.Post
   pub descriptor : OneAnswer header-descriptor.Post
   pub is-scan-type : OneAnswer layout-is-scan-type.Post
   pub sample-index : OneAnswer layout-sample-index.Post
   pub place-fault : OneAnswer layout-place-fault.Post
   pub sample-place : OneAnswer layout-sample-place.Post
-  pub part-refusal : OneAnswer parts-part-refusal.Post
   pub constants : OnePart parts-constants.Post
   pub extended-place : OneAnswer parts-extended-place.Post
   pub extended : OnePart parts-extended.Post

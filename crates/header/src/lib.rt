@@ -1,8 +1,7 @@
 // The header block of a record: accepted with its fields, or refused, and the descriptor of each channel set.
 ghost use mathlib.Core.Path.{_≡_};
-ghost use Prim.Native.Nat.{_^_, _<_};
 ghost use Rattle.sets.specs.Samples.{samplesOf};
-ghost use Rattle.header.specs.Faults.{sizeHolds, sizeFault, sizesFault, skewHolds, headerFault};
+ghost use Rattle.header.specs.Faults.{sizeHolds, sizesFault, skewHolds, headerFault};
 ghost use Rattle.header.specs.Answers.{headerOf, headerAnswer, isSet, descriptorAnswer};
 use block::byte_at;
 use block::lower_at;
@@ -15,6 +14,7 @@ use block::word_at;
 use refusals::Fault;
 use refusals::Refusal;
 use sets::ChannelSet;
+use sets::samples;
 
 // What an accepted header says.
 #[repr(C)]
@@ -59,13 +59,6 @@ pub enum Answer {
 pub enum Described {
     Set(ChannelSet),
     NoSet(Refusal),
-}
-
-// S/S of scan type t, counting from 0.
-fn samples(b: &[u8], t: u8) -> usize
-    ensures { λ r. ⌜ (r ≡ samplesOf (now (b .entry)) t) × (r < 2 ^ 40) ⌝ }
-{
-    sets::samples_before(b, t, pair_at(b, 29))
 }
 
 // E2.
@@ -165,13 +158,13 @@ pub fn read_header(block: &[u8]) -> Answer
     }
 }
 
-// Whether there is a scan type t and a set s, both counting from 1.
-fn is_set(b: &[u8], t: u32, s: u32) -> bool
-    ensures { λ r. ⌜ r ≡ isSet (now (b .entry)) t s ⌝ }
+// Whether there are such a scan type and set, both counting from 1.
+pub fn is_set(block: &[u8], scan_type: u32, set: u32) -> bool
+    ensures { λ r. ⌜ r ≡ isSet (now (block .entry)) «scan_type» set ⌝ }
 {
-    let scan_types = pair_at(b, 28) as u32;
-    let channel_sets = pair_at(b, 29) as u32;
-    ((1 <= t) & (t <= scan_types)) & ((1 <= s) & (s <= channel_sets))
+    let scan_types = pair_at(block, 28) as u32;
+    let channel_sets = pair_at(block, 29) as u32;
+    ((1 <= scan_type) & (scan_type <= scan_types)) & ((1 <= set) & (set <= channel_sets))
 }
 
 // The descriptor of a channel set, scan types and sets counting from 1.

@@ -9,10 +9,10 @@ ghost use Rattle.refusals.specs.declared.Fault.the-variants.{Clear};
 ghost use Rattle.general.specs.General.{scanTypes, within};
 ghost use Rattle.sets.specs.Samples.{samplesOf};
 ghost use Rattle.header.specs.Faults.{headerFault};
-ghost use Rattle.header.specs.Answers.{isSet};
 ghost use Rattle.layout.specs.Indexes.{hasPlace, indexOf, indexFault, indexAnswer, setOf, hasSample, spotOf, placeFault, placeAnswer};
 use block::pair_at;
 use header::header_fault;
+use header::is_set;
 use refusals::Fault;
 use refusals::Refusal;
 use sets::channels;
@@ -40,12 +40,6 @@ pub fn is_scan_type(block: &[u8], scan_type: u32) -> bool
     ensures { λ r. ⌜ r ≡ within 1 «scan_type» (scanTypes (now (block .entry))) ⌝ }
 {
     (1 <= scan_type) & (scan_type <= pair_at(block, 28) as u32)
-}
-
-fn is_set(b: &[u8], t: u32, s: u32) -> bool
-    ensures { λ r. ⌜ r ≡ isSet (now (b .entry)) t s ⌝ }
-{
-    is_scan_type(b, t) & ((1 <= s) & (s <= pair_at(b, 29) as u32))
 }
 
 // Whether an accepted header has such a channel and subscan.

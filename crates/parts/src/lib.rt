@@ -1,16 +1,12 @@
 // The parts of a header block, handed out as parts of the slice that the caller lent, and what the skew bytes say of a sample.
 // Every question takes any block and sheet. A refused one hands out an empty part, and another tells the refusal.
 ghost use mathlib.Core.Path.{_≡_};
-ghost use mathlib.Core.Bool.{true};
 ghost use Prim.Native.Nat.{_+_, _-_, _≤_, _<_, _^_};
 ghost use lib.ListN.{length};
 ghost use Rattle.refusals.specs.declared.Fault.the-variants.{Clear};
-ghost use Rattle.general.specs.General.{scanTypes};
-ghost use Rattle.sets.specs.Samples.{samplesOf};
-ghost use Rattle.header.specs.Faults.{headerFault};
 ghost use Rattle.parts.specs.Slices.{slice, part};
 ghost use Rattle.parts.specs.Parts.{extendedPlace, constantsPart, extendedPart, externalPart};
-ghost use Rattle.parts.specs.Skews.{source, skewPlace, sheetHolds, skewFault, skewOf, skewPart, skewByte, skewByteFault, skewAnswer};
+ghost use Rattle.parts.specs.Skews.{source, skewPlace, sheetHolds, skewFault, skewPart, skewByte, skewByteFault, skewAnswer};
 ghost use Rattle.parts.specs.Times.{timeBy, timeFault, timeAnswer};
 use block::byte_at;
 use block::pair_at;
@@ -20,7 +16,7 @@ use layout::is_scan_type;
 use layout::place_fault;
 use refusals::Fault;
 use refusals::Refusal;
-use sets::samples_before;
+use sets::samples;
 
 // What asking for a sample's skew byte answers.
 pub enum Skewed {
@@ -40,13 +36,6 @@ fn part_of(s: &[u8], a: usize, n: usize) -> &[u8]
     ensures { λ r. ⌜ slice (r .ptr) (now r) ≡ part (slice (s .entry .ptr) (now (s .entry))) a n ⌝ }
 {
     &s[a..a + n]
-}
-
-// What refuses the constants, the extended header and the external header.
-pub fn part_refusal(block: &[u8]) -> Fault
-    ensures { λ r. ⌜ r ≡ headerFault (now (block .entry)) ⌝ }
-{
-    header_fault(block)
 }
 
 // Bytes 5 to 10 of the general header.
@@ -94,13 +83,6 @@ pub fn external(block: &[u8]) -> &[u8]
             part_of(block, start, 32 * pair_at(block, 32) as usize)
         }
     }
-}
-
-// S/S of scan type t.
-fn samples(b: &[u8], t: u8) -> usize
-    ensures { λ r. ⌜ (r ≡ samplesOf (now (b .entry)) t) × (r < 2 ^ 40) ⌝ }
-{
-    samples_before(b, t, pair_at(b, 29))
 }
 
 // Whether a sheet that is used has S/S bytes for each scan type.

@@ -4,7 +4,7 @@ ghost use mathlib.Core.Path.{_≡_};
 ghost use Prim.Native.Nat.{_^_, _<_};
 ghost use Rattle.codes.specs.Codes.{perOf};
 ghost use Rattle.sets.specs.Descriptors.{placeOf, descriptorAt, descriptorHolds, fourHolds, setFault, scanTypeFault, descriptorsFault};
-ghost use Rattle.sets.specs.Samples.{channelsOf, subscansOf, setSamples, samplesBefore};
+ghost use Rattle.sets.specs.Samples.{channelsOf, subscansOf, setSamples, samplesBefore, samplesOf};
 ghost use Rattle.sets.specs.ChannelSets.{quarters, channelSetIn, channelSetOf};
 use block::all_pairs;
 use block::byte_at;
@@ -181,6 +181,13 @@ pub fn samples_before(b: &[u8], t: u8, n: u8) -> usize
         s += 1;
     }
     sum
+}
+
+// S/S: the samples of a scan of scan type t.
+pub fn samples(b: &[u8], t: u8) -> usize
+    ensures { λ r. ⌜ (r ≡ samplesOf (now (b .entry)) t) × (r < 2 ^ 40) ⌝ }
+{
+    samples_before(b, t, pair_at(b, 29))
 }
 
 // MP: the sign in a byte's first bit, the magnitude in the others.

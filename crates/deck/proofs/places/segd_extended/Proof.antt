@@ -4,8 +4,8 @@ use borrow.Author.Needs.{needs}
 use Rattle.deck.proofs.places.segd_extended.Statement.{statement}
 use Rattle.deck.proofs.places.segd_extended.Tie as tie
 
-part-refusal-requires : tie.Need-part-refusal-requires
-part-refusal-requires c κs = search needs
+header-fault-requires : tie.Need-header-fault-requires
+header-fault-requires c κs = search needs
 
 extended-place-requires : tie.Need-extended-place-requires
 extended-place-requires c κs = search needs
@@ -23,13 +23,13 @@ part-requires : tie.Need-part-requires
 part-requires c κs = search needs
 
 returns : tie.Need-returns
-returns c = rw (← c .before .before .before .part-refusal .ensures, ← c .before .before .extended-place .ensures .0, ← c .before .pair-at .ensures .0) (c .part .ensures)
+returns c = rw (← c .before .before .before .header-fault .ensures, ← c .before .before .extended-place .ensures .0, ← c .before .pair-at .ensures .0) (c .part .ensures)
 
 pub segd-extended-spec : {M : Type 1} → statement M
 segd-extended-spec =
     tie.close
     (tie.spec
-    part-refusal-requires
+    header-fault-requires
     extended-place-requires
     pair-at-requires
     cast-part

@@ -5,8 +5,8 @@ use borrow.Author.Needs.{needs}
 use Rattle.deck.proofs.places.segd_external.Statement.{statement}
 use Rattle.deck.proofs.places.segd_external.Tie as tie
 
-part-refusal-requires : tie.Need-part-refusal-requires
-part-refusal-requires c κs = search needs
+header-fault-requires : tie.Need-header-fault-requires
+header-fault-requires c κs = search needs
 
 extended-place-requires : tie.Need-extended-place-requires
 extended-place-requires c κs = search needs
@@ -37,13 +37,13 @@ part-requires c κs = search needs
 
 returns : tie.Need-returns
 unfolding externalPlace
-returns c = rw (← c .before .before .before .before .part-refusal .ensures, ← c .before .before .before .extended-place .ensures .0, ← c .before .before .pair-at .ensures .0, ← c .before .pair-at2 .ensures .0) (c .part .ensures)
+returns c = rw (← c .before .before .before .before .header-fault .ensures, ← c .before .before .before .extended-place .ensures .0, ← c .before .before .pair-at .ensures .0, ← c .before .pair-at2 .ensures .0) (c .part .ensures)
 
 pub segd-external-spec : {M : Type 1} → statement M
 segd-external-spec =
     tie.close
     (tie.spec
-    part-refusal-requires
+    header-fault-requires
     extended-place-requires
     pair-at-requires
     cast-start

@@ -1,9 +1,9 @@
--- `parts::samples` meets its contract.
+-- `sets::samples` meets its contract.
 -- Assumes nothing.
 use borrow.Author.Needs.{needs}
 use Rattle.sets.specs.Samples.{samplesOf}
-use Rattle.parts.proofs.samples.Statement.{statement}
-use Rattle.parts.proofs.samples.Tie as tie
+use Rattle.sets.proofs.samples.Statement.{statement}
+use Rattle.sets.proofs.samples.Tie as tie
 
 pair-at-requires : tie.Need-pair-at-requires
 pair-at-requires c κs = search needs
