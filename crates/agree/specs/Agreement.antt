@@ -42,5 +42,6 @@ pub record Unopened (b : List ℕ) (r : Refusal) : Type 0 where
   pub ends : N.blockEnd O.unfit ≡ K.unchanged O.unfit State
   pub closes : N.close O.unfit ≡ N.refused State
 
+-- so is every header block that is refused
 abbrev pub TurnedAway : Type 0
 TurnedAway = (b : List ℕ) (r : Refusal) → headerAnswer b ≡ Refused r → Unopened b r

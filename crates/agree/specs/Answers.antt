@@ -33,16 +33,17 @@ abbrev pub roomAnswer : Fault → Answer
 roomAnswer (At r) = Stopped 0 r
 roomAnswer Clear = Refused Room
 
--- the answer to a call c after the calls cs
+-- the answer to a call c that is taken, after the calls cs
 abbrev pub takenAnswer : Shape → List Call → Call → Answer
 takenAnswer sh cs c =
     answerFrom (stopOf sh (bodyOf cs)) (stopOf sh (bodyOf (cs ++ (c ∷ [])))) (doneOf sh (bodyOf (cs ++ (c ∷ []))) - doneOf sh (bodyOf cs))
 
+-- the answer to a call c after the calls cs
 abbrev pub answerTo : Shape → List Call → Call → Answer
 answerTo sh cs (put bs room) = pick (ltb room (2 * length bs)) (roomAnswer (stopOf sh (bodyOf cs))) (takenAnswer sh cs (put bs room))
 answerTo sh cs end = takenAnswer sh cs end
 
--- the closing answer, as the reader gives it
+-- ITB and the window's T, as the reader gives them
 abbrev pub itbOf : Option ℕ → Itb
 itbOf none = I.None
 itbOf (some bit) = I.Bit bit
@@ -51,6 +52,7 @@ abbrev pub windowOf : Option ℕ → Window
 windowOf none = W.None
 windowOf (some t) = W.At t
 
+-- the closing answer, as the reader gives it
 abbrev pub closedOf : Closing → B.Closing
 closedOf (refused r) = N.refused r
 closedOf (report t) =

@@ -23,6 +23,7 @@ abbrev pub Bytes : List ℕ → Type 0
 Bytes [] = Unit {0}
 Bytes (b ∷ bs) = (b < 256) × Bytes bs
 
+-- those of every portion
 abbrev pub BytesIn : List Call → Type 0
 BytesIn [] = Unit {0}
 BytesIn (put bs room ∷ cs) = Bytes bs × BytesIn cs
@@ -34,6 +35,7 @@ pub record Reading : Type 0 where
   pub state : State
   pub written : List ℤ
 
+-- call after call
 abbrev pub readOn : Reading → List Call → Reading
 readOn c [] = c
 readOn c (put bs room ∷ cs) = readOn (record { state = K.portion (c .state) bs room .state; written = c .written ++ K.written (c .state) bs room }) cs

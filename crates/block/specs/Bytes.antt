@@ -49,6 +49,7 @@ threeDigits b n = lower b n * 100 + pair b (n + 1)
 unfoldable pub binary : List ℕ → ℕ → ℕ → ℕ
 binary b n m = written 256 (byte b) n (m + 1 - n)
 
+-- byte i from byte n on is a digit pair
 abbrev pub pairFrom : List ℕ → ℕ → ℕ → Bool
 pairFrom b n i = isPair (byte b (n + i))
 

@@ -22,6 +22,7 @@ abbrev pub itemTold : List ℕ → List Told
 itemTold [] = mark ∷ []
 itemTold (b ∷ bs) = map byte (b ∷ bs) ++ (close ∷ [])
 
+-- of items one after another
 abbrev pub itemsTold : List (List ℕ) → List Told
 itemsTold [] = []
 itemsTold (i ∷ is) = itemTold i ++ itemsTold is
@@ -46,6 +47,7 @@ pub record Walk : Type 0 where
   pub frame : Frame
   pub told : List Told
 
+-- what was told before, then a walk
 abbrev pub after : List Told → Walk → Walk
 after ts w = record { frame = w .frame; told = ts ++ w .told }
 

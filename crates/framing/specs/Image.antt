@@ -16,12 +16,15 @@ pub record Reading : Type 0 where
   pub tail : List ℕ
   pub ending : Ending
 
+-- no item more: the bytes left over, and how the reel ends
 abbrev pub ends : List ℕ → Ending → Reading
 ends bytes e = record { items = []; tail = bytes; ending = e }
 
+-- an item, then the rest
 abbrev pub then : List ℕ → Reading → Reading
 then item r = record { items = item ∷ r .items; tail = r .tail; ending = r .ending }
 
+-- byte i, from 0; 0 past the end
 abbrev byteOf : List ℕ → ℕ → ℕ
 byteOf bytes i = getD bytes i 0
 

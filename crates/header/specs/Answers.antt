@@ -45,6 +45,7 @@ headerOf b = record {
   «samples_per_scan» = samplesOf b 0;
 }
 
+-- accepted where no rule is broken
 abbrev pub answerAfter : Fault → Header → Answer
 answerAfter Clear h = Accepted h
 answerAfter (At r) h = Refused r
@@ -57,6 +58,7 @@ headerAnswer b = answerAfter (headerFault b) (headerOf b)
 unfoldable pub isSet : List ℕ → ℕ → ℕ → Bool
 isSet b t s = within 1 t (scanTypes b) && within 1 s (channelSets b)
 
+-- described where nothing is refused
 abbrev pub describedAfter : Fault → ChannelSet → Described
 describedAfter Clear d = Set d
 describedAfter (At r) d = NoSet r

@@ -20,6 +20,7 @@ sizeHolds b t = eqb (8 * bytesPerScan b) (8 * 8 + samplesOf b t * bitsOf (codeOf
 unfoldable pub sizeFault : List ℕ → ℕ → Fault
 sizeFault b t = when (not (sizeHolds b t)) (Size (t + 1))
 
+-- of every scan type, in order
 unfoldable pub sizesFault : List ℕ → Fault
 sizesFault b = firstUpto (sizeFault b) (scanTypes b)
 

@@ -33,6 +33,7 @@ indexOf b t s c u = samplesBefore b (t - 1) (s - 1) + (u * channelsOf b (t - 1) 
 unfoldable pub indexFault : List ℕ → ℕ → ℕ → ℕ → ℕ → Fault
 indexFault b t s c u = orElse (headerFault b) (when (not (hasPlace b t s c u)) refusals.Index)
 
+-- the index, or why there is none
 abbrev pub indexAfter : Fault → ℕ → Index
 indexAfter Clear k = Sample k
 indexAfter (At r) k = NoSample r
@@ -69,6 +70,7 @@ spotOf b t k = sits b t (setOf b t k) (k - samplesBefore b t (setOf b t k))
 unfoldable pub placeFault : List ℕ → ℕ → ℕ → Fault
 placeFault b t k = orElse (headerFault b) (when (not (hasSample b t k)) refusals.Index)
 
+-- the place, or why there is none
 abbrev pub placeAfter : Fault → Place → Place
 placeAfter Clear p = p
 placeAfter (At r) p = NoPlace r

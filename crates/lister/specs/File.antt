@@ -59,6 +59,7 @@ abbrev pub headedBy : Answer → List ℕ → File
 headedBy (H.Refused r) header = Refused r
 headedBy (H.Accepted h) header = Blocks (h .file) (h .code) (opened header .state)
 
+-- the file after its header block
 abbrev pub headed : List ℕ → File
 headed header = headedBy (headerAnswer header) header
 
@@ -75,6 +76,7 @@ abbrev pub toldBy : ℕ → ℕ → ℕ → Closed → Report → Outcome
 toldBy file format place C.Whole r = O.Listed file format (r .scans) (r .samples) (r .off)
 toldBy file format place (C.Refused r) x = O.Refused r place
 
+-- what is listed of a body that is asked to close
 abbrev pub closedOf : ℕ → ℕ → State → Outcome
 closedOf file format s = toldBy file format (s .place) (close s .answer) (close s .report)
 

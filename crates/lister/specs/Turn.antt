@@ -33,11 +33,12 @@ abbrev pub marked : Said → ℕ → List ℕ → Heard
 marked Nothing count line = record { file = Empty; count = count; length = 0 }
 marked (Line o) count line = record { file = Empty; count = nextNumber count; length = lengthIn line (lineOf (nextNumber count) o) }
 
+-- and the line's buffer
 abbrev pub markedLine : Said → ℕ → List ℕ → List ℕ
 markedLine Nothing count line = line
 markedLine (Line o) count line = lineIn line (lineOf (nextNumber count) o)
 
--- an answer of `next` that passed some bytes: what is heard, and the buffers
+-- an answer of `next` that passed some bytes: what is heard, and then the buffers:
 abbrev pub heardOf : File → ℕ → Met → List ℕ → List ℕ → List ℤ → List ℕ → Heard
 heardOf f count Framing bytes header numbers line = record { file = f; count = count; length = 0 }
 heardOf f count Part bytes header numbers line = record { file = partOf f bytes header numbers; count = count; length = 0 }
@@ -45,24 +46,28 @@ heardOf f count Whole bytes header numbers line =
     record { file = itemEnd (partOf f bytes header numbers) (bufferAfter f bytes header); count = count; length = 0 }
 heardOf f count Mark bytes header numbers line = marked (saidOf f) count line
 
+-- the header's buffer,
 abbrev pub heardHeader : File → Met → List ℕ → List ℕ → List ℕ
 heardHeader f Framing bytes header = header
 heardHeader f Part bytes header = bufferAfter f bytes header
 heardHeader f Whole bytes header = bufferAfter f bytes header
 heardHeader f Mark bytes header = header
 
+-- the numbers',
 abbrev pub heardNumbers : File → Met → List ℕ → List ℤ → List ℤ
 heardNumbers f Framing bytes numbers = numbers
 heardNumbers f Part bytes numbers = numbersAfter f bytes numbers
 heardNumbers f Whole bytes numbers = numbersAfter f bytes numbers
 heardNumbers f Mark bytes numbers = numbers
 
+-- and the line's
 abbrev pub heardLine : File → ℕ → Met → List ℕ → List ℕ
 heardLine f count Framing line = line
 heardLine f count Part line = line
 heardLine f count Whole line = line
 heardLine f count Mark line = markedLine (saidOf f) count line
 
+-- a step of the framing and what was heard, as one turn
 abbrev pub joinedTurn : Step → Heard → Turn
 joinedTurn s h = record { tape = record { frame = s .frame; file = h .file; count = h .count }; to = s .to; length = h .length }
 
@@ -96,6 +101,7 @@ pub record Lister : Type 0 where
   pub line : List ℕ
   pub out : List ℕ
 
+-- one step
 abbrev pub turned : Lister → List ℕ → ℕ → Lister
 turned s bytes at = record {
   tape = (turnOf (s .tape) bytes at (s .header) (s .numbers) (s .line)) .tape;

@@ -33,6 +33,7 @@ ascii (c then s) = code c ∷ ascii s
 abbrev pub placeFor : ℕ → ℕ → ℕ → ℕ
 placeFor number first bytes = pick (ltb number 14) 0 (pick (leb number 18) first (pick (leb number 21) bytes 0))
 
+-- P of a refusal
 abbrev pub placeOf : Refusal → ℕ → ℕ
 placeOf r bytes = placeFor (told r .number) (told r .first) bytes
 

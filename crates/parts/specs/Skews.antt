@@ -42,6 +42,7 @@ skewFault b sheet t =
 unfoldable pub skewOf : Slice → Slice → ℕ → Slice
 skewOf block sheet t = part (source (block .bytes) block sheet) (skewPlace (block .bytes) t) (samplesOf (block .bytes) t)
 
+-- the part that is handed out
 unfoldable pub skewPart : Slice → Slice → ℕ → Slice
 skewPart block sheet t = partAfter (skewFault (block .bytes) (sheet .bytes) t) block (skewOf block sheet (t - 1))
 
@@ -53,9 +54,11 @@ skewByte b sheet t k = getD (source b b sheet) (skewPlace b t + k) 0
 unfoldable pub skewByteFault : List ℕ → List ℕ → ℕ → ℕ → Fault
 skewByteFault b sheet t k = orElse (placeFault b t k) (when (not (sheetHolds b sheet)) Sheet)
 
+-- the skew byte, or why there is none
 abbrev pub skewAfter : Fault → ℕ → Skewed
 skewAfter Clear x = Skew x
 skewAfter (At r) x = NoSkew r
 
+-- SS of sample k of scan type t, counting from 1
 unfoldable pub skewAnswer : List ℕ → List ℕ → ℕ → ℕ → Skewed
 skewAnswer b sheet t k = skewAfter (skewByteFault b sheet t k) (skewByte b sheet (t - 1) k)

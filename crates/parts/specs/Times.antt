@@ -23,9 +23,11 @@ unfoldable pub timeFault : List ℕ → List ℕ → ℕ → ℕ → ℕ → Fau
 timeFault b sheet t k T =
     orElse (placeFault b t k) (orElse (when (not (ltb T (2 ^ 24))) Index) (when (not (sheetHolds b sheet)) Sheet))
 
+-- the time, or why there is none
 abbrev pub timeAfter : Fault → ℕ → Timed
 timeAfter Clear x = Time x
 timeAfter (At r) x = NoTime r
 
+-- the time of sample k of scan type t, counting from 1, by its scan's T
 unfoldable pub timeAnswer : List ℕ → List ℕ → ℕ → ℕ → ℕ → Timed
 timeAnswer b sheet t k T = timeAfter (timeFault b sheet t k T) (timeBy T (skewByte b sheet (t - 1) k) (intervalOf b))

@@ -15,6 +15,7 @@ pub record Said : Type 0 where
 abbrev row : ℕ → List ℕ → Said
 row n vs = record { number = n; values = vs }
 
+-- each row of the table
 abbrev pub said : Refusal → Said
 said Short = row 1 []
 said Format = row 2 []

@@ -4,6 +4,7 @@ use Prim.Native.Nat.{ℕ}
 use mathlib.Core.List.{List, [], _∷_, _++_}
 use Rattle.rules.specs.Tape.{Body}
 
+-- a portion, or a block end
 pub data Piece : Type 0 where
   portion : List ℕ → Piece
   blockEnd : Piece

@@ -33,5 +33,6 @@ channelSetIn d = record {
   «third_notch» = decimal d 25 26;
 }
 
+-- of set s of scan type t, both counting from 0
 abbrev pub channelSetOf : List ℕ → ℕ → ℕ → ChannelSet
 channelSetOf b t s = channelSetIn (descriptorAt b t s)

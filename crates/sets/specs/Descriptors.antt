@@ -40,8 +40,10 @@ setFault b t s =
     orElse (when (not (descriptorHolds (descriptorAt b t s) t s)) (Descriptor (t + 1) (s + 1)))
     (when (not (fourHolds (codeOf b) (channelsIn (descriptorAt b t s)))) (Four (t + 1) (s + 1)))
 
+-- the first of a scan type's sets
 unfoldable pub scanTypeFault : List ℕ → ℕ → Fault
 scanTypeFault b t = firstUpto (setFault b t) (channelSets b)
 
+-- the first of all scan types
 unfoldable pub descriptorsFault : List ℕ → Fault
 descriptorsFault b = firstUpto (scanTypeFault b) (scanTypes b)
