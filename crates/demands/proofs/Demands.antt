@@ -3,16 +3,15 @@
 use Prim.Native.Nat.{ℕ, _+_, _-_, _*_, _/_, _%_, _^_, _<_}
 use mathlib.Core.Path.{_≡_, refl, subst}
 use mathlib.Core.Bool.{true, false, not}
-use mathlib.Core.List.{List, [], _∷_, append-nil}
+use mathlib.Core.List.{List}
 use native.Mathlib.Nat.{zero-add}
 use native.Mathlib.Omega.{arith}
 use lib.Dec.{ltb}
-use lib.IntN.{ℤ}
 use lib.ListN.{length}
-use borrow.Author.Tests.{lt-ltb, ltb-true, ne-eqb, eq-eqb}
+use borrow.Author.Tests.{lt-ltb, ltb-true, eq-eqb}
 use Rattle.basis.specs.Choice.{pick}
 use Rattle.basis.proofs.FieldLaws.{last-back, fraction-back, exponent-back, sign-back, rejoined}
-use Rattle.values.proofs.Laws.{same-refl, same-sym, same-trans, same-shift, same-tested, less-irrefl, less-trans, same-less, less-level, total}
+use Rattle.values.proofs.Laws.{same-refl, same-sym, same-trans, same-shift, same-tested, same-told, less-tested, less-told, less-irrefl, less-trans, same-less, less-level, total}
 use Rattle.codes.specs.declared.Row.{Row}
 use Rattle.codes.specs.Codes.{Fit}
 use Rattle.codes.proofs.Rows.{fit}
@@ -35,10 +34,8 @@ use Rattle.layout.proofs.Inverses.{inverse}
 use Rattle.layout.proofs.SetLaws.{channel-is, subscan-is}
 use Rattle.words.specs.Words.{spareOf}
 use Rattle.words.proofs.Parts.{taken}
-use Rattle.header.proofs.Accepted.{descriptor-inside, subscans-small, skew-inside}
+use Rattle.header.proofs.Accepted.{descriptor-inside, subscans-small, skew-inside, same-samples}
 use Rattle.layout.proofs.WordLaws.{words-apart, word-inside, words-fill}
-use Rattle.parts.proofs.Fits.{byte-of-part}
-use Rattle.body.proofs.Cuts.{cut-state, cut-wrote}
 use Rattle.body.proofs.Opens.{open-unfit}
 use Rattle.body.proofs.Stops.{stop-said}
 use Rattle.parts.specs.declared.Skewed.the-variants.{Skew}
@@ -52,45 +49,27 @@ use Rattle.rules.specs.Outcome.{doneOf}
 use Rattle.rules.proofs.Laws.{stop-first}
 use Rattle.scan.specs.declared.State.{State}
 use Rattle.scan.specs.Fit.{fitb}
-use Rattle.body.specs.Calls.{portion, taken as takenPortion, written, kept, answered}
-use Rattle.body.specs.Calls as calls
-use Rattle.body.specs.Ends.{blockEnd, ended, close, finish, refused}
-use Rattle.agree.specs.Calls.{Call, put, end, readOn}
+use Rattle.body.specs.Calls.{portion, taken as takenPortion, written, kept}
+use Rattle.body.specs.Ends.{blockEnd, close}
 use Rattle.agree.proofs.Agreement.{agreement, turned-away}
 use Rattle.framing.proofs.Framed.{framed}
 use Rattle.lister.proofs.Listed.{listed}
-use Rattle.demands.specs.Demand1.{Unmoved, NoTrace, Demand1, stands}
+use Rattle.demands.specs.Demand1.{Unmoved, NoTrace, Demand1}
 use Rattle.demands.specs.Demand2.{OwnBytes, Compared, Cut, Askable, Demand2}
 use Rattle.demands.specs.Demand3.{InOrder, Demand3}
 use Rattle.demands.specs.Reel.{Reel}
 use Rattle.demands.proofs.Uniques.{unique}
 use Rattle.demands.proofs.Helds.{unique-held}
+use Rattle.demands.proofs.Bounds.{bound}
+use Rattle.demands.proofs.BoundHelds.{bound-held}
+use Rattle.demands.proofs.Stopping.{stays, stays-after-portion, stays-after-end}
 use Rattle.demands.proofs.Pairs.{pairs-length, pair-at}
+use Rattle.demands.proofs.Outputs.{two-are-one, output}
+use Rattle.demands.proofs.Owed.{owed}
+use Rattle.demands.proofs.Handed.{external-next, external-last, skew-bytes}
 use Rattle.demands.proofs.Figures.{all-figures}
 
 -- ---- 1
-module _ (s : State) (f : fitb s ≡ true) (n : s .stop ≡ 0 → ⊥) where
-  portions : (bs : List ℕ) (room : ℕ) → portion s bs room ≡ stands s (calls.stopOf (s .stop) (s .stopat))
-  unfolding portion takenPortion answered pick
-  portions bs room = rw (f, ne-eqb (s .stop) 0 n)
-
-  nothing : (bs : List ℕ) (room : ℕ) → written s bs room ≡ []
-  unfolding written kept pick
-  nothing bs room = rw (f, ne-eqb (s .stop) 0 n)
-
-  ends : blockEnd s ≡ stands s (calls.stopOf (s .stop) (s .stopat))
-  unfolding blockEnd ended answered pick
-  ends = rw (f, ne-eqb (s .stop) 0 n)
-
-  closes : close s ≡ refused (calls.stopOf (s .stop) (s .stopat))
-  unfolding close finish pick
-  closes = rw (f, ne-eqb (s .stop) 0 n)
-
-  forever : (w : List ℤ) (cs : List Call) → readOn (record { state = s; written = w }) cs ≡ record { state = s; written = w }
-  forever w [] = refl
-  forever w (put bs room ∷ cs) = rw (portions bs room, nothing bs room, append-nil w) (forever w cs)
-  forever w (end ∷ cs) = rw ends (forever w cs)
-
 unmoved : (s : State) → fitb s ≡ false → Unmoved s
 unfolding portion written blockEnd close pick
 unmoved s f = record { portions = λ bs room. rw f; written = λ bs room. rw f; blockEnds = rw f; closes = rw f }
@@ -106,7 +85,11 @@ pub demand1 : Demand1
 demand1 = record {
   one = unique;
   held = unique-held;
-  stopped = λ s f n. record { portions = portions s f n; written = nothing s f n; blockEnds = ends s f n; closes = closes s f n; forever = forever s f n };
+  bound = bound;
+  bound-held = bound-held;
+  stays-after-portion = stays-after-portion;
+  stays-after-end = stays-after-end;
+  stopped = stays;
   unfit = unmoved;
   unopened = turned-away;
   shut = open-unfit;
@@ -192,6 +175,9 @@ own-bytes b e =
       descriptors = descriptor-inside b e;
       subscans = subscans-small b e;
       skews = skew-inside b e;
+      alike = same-samples b e;
+      extended = external-next b;
+      external = external-last b e;
     }
 
 compared : Compared
@@ -200,7 +186,10 @@ compared = record {
   sym = same-sym;
   trans = same-trans;
   shift = same-shift;
-  tested = same-tested;
+  same-tested = same-tested;
+  same-told = same-told;
+  less-tested = less-tested;
+  less-told = less-told;
   irrefl = less-irrefl;
   less-trans = less-trans;
   same-less = same-less;
@@ -220,11 +209,11 @@ demand2 = record {
   cut = λ code r e. cut-in r (fit code r e);
   own = own-bytes;
   values = compared;
-  skews = byte-of-part;
+  skews = skew-bytes;
   skewed = λ b sheet t k a. rw (a .accepted, a .there, a .sheeted);
   skewBytes = skew-asked;
   timed = λ b sheet t k T a l. rw (a .accepted, a .there, lt-ltb T (2 ^ 24) l, a .sheeted);
-  times = time-asked;
+  sampleTimes = time-asked;
   starred = all-figures;
 }
 
@@ -248,7 +237,9 @@ in-order sh d = record {
 pub demand3 : Demand3
 demand3 = record {
   agrees = agreement;
-  cuts = λ s a b f m n k ha hb h. record { state = cut-state s a b f m n k ha hb h; samples = cut-wrote s a b f m n k ha hb h };
+  cuts = two-are-one;
+  seen = output;
+  owed = owed;
   order = in-order;
   first = stop-first;
 }

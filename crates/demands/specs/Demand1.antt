@@ -1,5 +1,5 @@
--- The first demand: whatever is handed in, every call ends with its answer or with the refusal that the description names. What it
--- answers is each function's own contract, proved where the function stands; here stand what follows for all of them.
+-- The first demand: whatever is handed in, every call ends with its answer or with the refusal that the description names. That a
+-- function meets its contract is proved where the function stands; here stand which answer that is, and what follows for all of them.
 -- Assumes nothing.
 use Prim.Native.Nat.{ℕ, _/_, _<_}
 use mathlib.Core.Path.{_≡_}
@@ -23,6 +23,8 @@ use Rattle.agree.specs.Calls.{Call, readOn}
 use Rattle.agree.specs.Agreement.{TurnedAway}
 use Rattle.demands.specs.Unique.{Unique}
 use Rattle.demands.specs.Held.{UniqueHeld}
+use Rattle.demands.specs.Bound.{Bound}
+use Rattle.demands.specs.BoundHeld.{BoundHeld}
 
 -- a state as it is, with a refusal from before and no sample written
 abbrev pub stands : State → Refusal → Gave
@@ -36,14 +38,14 @@ pub record SameStop (s : State) (r : Refusal) : Type 0 where
   pub closes : ends.close s ≡ ends.refused r
   pub forever : (w : List ℤ) (cs : List Call) → readOn (record { state = s; written = w }) cs ≡ record { state = s; written = w }
 
--- "23 changes nothing and stops nothing"
+-- "13 and 23 change nothing and stop nothing": 23, whatever the call
 pub record Unmoved (s : State) : Type 0 where
   pub portions : (bs : List ℕ) (room : ℕ) → calls.portion s bs room ≡ calls.unchanged s refusal.State
   pub written : (bs : List ℕ) (room : ℕ) → calls.written s bs room ≡ []
   pub blockEnds : ends.blockEnd s ≡ calls.unchanged s refusal.State
   pub closes : ends.close s ≡ ends.refused refusal.State
 
--- "13 .. changes nothing and stops nothing": a portion that the output has no room for leaves no trace
+-- "13 and 23 change nothing and stop nothing": 13, a portion that the output has no room for, leaves no trace
 pub record NoTrace (s : State) (bs : List ℕ) (room : ℕ) : Type 0 where
   pub answer : calls.portion s bs room ≡ calls.unchanged s refusal.Room
   pub written : calls.written s bs room ≡ []
@@ -53,7 +55,14 @@ pub record Demand1 : Type 2 where
   pub one : Unique
   -- so do the contracts of the functions over a header that is carried with its bytes, which are read at every model of the logic
   pub held : UniqueHeld
-  -- a body that has stopped stays so
+  -- that answer is the definition's, of which the demands speak
+  pub bound : Bound
+  pub bound-held : BoundHeld
+  -- a call that answers with a stop leaves a state that keeps it
+  pub stays-after-portion : (s : State) (bs : List ℕ) (room n : ℕ) (r : Refusal) → calls.portion s bs room .answer ≡ Stopped n r →
+      SameStop (calls.portion s bs room .state) r
+  pub stays-after-end : (s : State) (n : ℕ) (r : Refusal) → ends.blockEnd s .answer ≡ Stopped n r → SameStop (ends.blockEnd s .state) r
+  -- and so does every fit state that has a stop, wherever it comes from
   pub stopped : (s : State) → fitb s ≡ true → (s .stop ≡ 0 → ⊥) → SameStop s (calls.stopOf (s .stop) (s .stopat))
   -- an unfit state, such as that of a refused opening, is refused by every call
   pub unfit : (s : State) → fitb s ≡ false → Unmoved s

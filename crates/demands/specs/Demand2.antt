@@ -1,7 +1,7 @@
 -- The second demand: fields, places, samples and times are the paper's, as the description reads it. What each is stands in the specs
 -- of general, sets, words, layout and parts; here stand that accepted headers and words of a code are given it, and not vacuously.
 -- Assumes nothing.
-use Prim.Native.Nat.{ℕ, _+_, _-_, _^_, _≤_, _<_}
+use Prim.Native.Nat.{ℕ, _+_, _*_, _-_, _^_, _≤_, _<_}
 use mathlib.Core.Path.{_≡_}
 use mathlib.Core.Logic.{_⊎_}
 use mathlib.Core.Bool.{true}
@@ -21,7 +21,7 @@ use Rattle.sets.specs.declared.ChannelSet.{ChannelSet}
 use Rattle.sets.specs.ChannelSets.{channelSetOf}
 use Rattle.sets.specs.Descriptors.{placeOf}
 use Rattle.sets.specs.Samples.{subscansOf, samplesOf}
-use Rattle.general.specs.General.{codeOf, bytesPerScan, intervalOf, scanTypes, channelSets, skewFields}
+use Rattle.general.specs.General.{codeOf, bytesPerScan, intervalOf, scanTypes, channelSets, skewFields, extendedFields, externalFields}
 use Rattle.header.specs.declared.Header.{Header}
 use Rattle.header.specs.declared.Answer.the-variants.{Accepted}
 use Rattle.header.specs.declared.Described.the-variants.{Set}
@@ -33,7 +33,8 @@ use Rattle.layout.specs.Places.{wordPlace}
 use Rattle.parts.specs.declared.Skewed.the-variants.{Skew}
 use Rattle.parts.specs.declared.Timed.the-variants.{Time}
 use Rattle.parts.specs.Slices.{slice}
-use Rattle.parts.specs.Skews.{skewByte, skewOf, sheetHolds, skewAnswer}
+use Rattle.parts.specs.Parts.{extendedPlace, externalPlace}
+use Rattle.parts.specs.Skews.{skewByte, sheetHolds, skewFault, skewPart, skewAnswer}
 use Rattle.parts.specs.Times.{timeBy, timeAnswer}
 use Rattle.demands.specs.Figures.{All, figures}
 
@@ -59,14 +60,22 @@ pub record OwnBytes (b : List ℕ) : Type 0 where
   pub subscans : (t s : ℕ) → t < scanTypes b → s < channelSets b → subscansOf b t s ≤ 512
   -- its skew bytes, where skew is recorded: S/S of them, after its CS descriptors
   pub skews : (t : ℕ) → t < scanTypes b → (skewFields b ≡ 0 → ⊥) → placeOf b t (channelSets b) + samplesOf b t ≤ length b
+  -- E2 gives each scan type the first one's S/S
+  pub alike : (t : ℕ) → t < scanTypes b → samplesOf b t ≡ samplesOf b 0
+  -- "then extended, then external header", which ends the block
+  pub extended : extendedPlace b + 32 * extendedFields b ≡ externalPlace b
+  pub external : externalPlace b + 32 * externalFields b ≡ length b
 
--- "Values are compared in whole numbers": equality is one, the order is one, and a shift keeps the value
+-- "Values are compared in whole numbers": equality is one, the order is one, a shift keeps the value, and the tests tell them exactly
 pub record Compared : Type 0 where
   pub refl : (a : Scaled) → Same a a
   pub sym : {a b : Scaled} → Same a b → Same b a
   pub trans : {a b c : Scaled} → Same a b → Same b c → Same a c
   pub shift : (m x : ℤ) (d : ℕ) → Same (scaled (times m d) x) (scaled m (x +ℤ pos d))
-  pub tested : {a b : Scaled} → Same a b → T (sameTest a b)
+  pub same-tested : {a b : Scaled} → Same a b → T (sameTest a b)
+  pub same-told : {a b : Scaled} → T (sameTest a b) → Same a b
+  pub less-tested : {a b : Scaled} → Less a b → lessTest a b ≡ true
+  pub less-told : {a b : Scaled} → lessTest a b ≡ true → Less a b
   pub irrefl : {a b : Scaled} → Same a b → Less a b → ⊥
   pub less-trans : {a b c : Scaled} → Less a b → Less b c → Less a c
   pub same-less : {a b c : Scaled} → Same a b → Less b c → Less a c
@@ -80,6 +89,12 @@ pub record Cut (r : Row) : Type 0 where
       ofFields r (signIn r word) (exponentIn r 0 word) (fractionIn r word) (lastIn r word) ≡ word
   pub joined : (s e q last : ℕ) → s < 2 → e < 2 ^ (r .exponent - r .apart) → q < 2 ^ r .fraction → last < 2 ^ spareOf r →
       Has r (ofFields r s e q last) s e q last
+
+-- "handed out as the very part of the caller's block, without padding for skew (S/S bytes)": the skew of scan type t, counting from 1,
+-- has a byte for each sample of a scan, and byte k of it is sample k's
+pub record SkewBytes (b sheet : List ℕ) (p q : ℕ × ℕ) (t : ℕ) : Type 0 where
+  pub many : length (skewPart (slice p b) (slice q sheet) t .bytes) ≡ samplesOf b (t - 1)
+  pub each : (k : ℕ) → k < samplesOf b (t - 1) → getD (skewPart (slice p b) (slice q sheet) t .bytes) k 0 ≡ skewByte b sheet (t - 1) k
 
 -- "Questions: header, 11, 12", of a sample: its header is accepted, scan type t has a sample k, and a sheet that is used has its length
 pub record Askable (b sheet : List ℕ) (t k : ℕ) : Type 0 where
@@ -105,17 +120,16 @@ pub record Demand2 : Type 0 where
   -- each at its own place in the scan
   pub own : (b : List ℕ) → headerFault b ≡ Clear → OwnBytes b
   pub values : Compared
-  -- sample k's skew byte is byte k of the part that is handed out
-  pub skews : (b sheet : List ℕ) (p q : ℕ × ℕ) (t k : ℕ) → k < samplesOf b t →
-      getD (skewOf (slice p b) (slice q sheet) t .bytes) k 0 ≡ skewByte b sheet t k
-  -- it is given exactly where it can be asked for,
+  -- where a scan type's skew is not refused, the part that is handed out has its bytes
+  pub skews : (b sheet : List ℕ) (p q : ℕ × ℕ) (t : ℕ) → skewFault b sheet t ≡ Clear → SkewBytes b sheet p q t
+  -- one sample's skew byte is given exactly where it can be asked for,
   pub skewed : (b sheet : List ℕ) (t k : ℕ) → Askable b sheet t k → skewAnswer b sheet t k ≡ Skew (skewByte b sheet (t - 1) k)
   pub skewBytes : (b sheet : List ℕ) (t k SS : ℕ) → skewAnswer b sheet t k ≡ Skew SS →
       Askable b sheet t k × (SS ≡ skewByte b sheet (t - 1) k)
   -- and a time exactly where moreover T is below 2^24: it is 16 T + SS x I
   pub timed : (b sheet : List ℕ) (t k T : ℕ) → Askable b sheet t k → T < 2 ^ 24 →
       timeAnswer b sheet t k T ≡ Time (timeBy T (skewByte b sheet (t - 1) k) (intervalOf b))
-  pub times : (b sheet : List ℕ) (t k T time : ℕ) → timeAnswer b sheet t k T ≡ Time time →
+  pub sampleTimes : (b sheet : List ℕ) (t k T time : ℕ) → timeAnswer b sheet t k T ≡ Time time →
       Askable b sheet t k × (T < 2 ^ 24) × (time ≡ timeBy T (skewByte b sheet (t - 1) k) (intervalOf b))
   -- the starred figures: among them a header that is accepted, and samples that have their places
   pub starred : All figures

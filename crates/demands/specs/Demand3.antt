@@ -2,20 +2,22 @@
 -- Assumes nothing.
 use Prim.Native.Nat.{ℕ, _+_, _*_, _/_, _≤_, _<_}
 use mathlib.Core.Path.{_≡_}
-use mathlib.Core.Bool.{true}
 use mathlib.Core.List.{List, _++_}
+use lib.IntN.{ℤ}
 use lib.ListN.{length, take, drop}
 use Rattle.basis.specs.Digits.{written}
 use Rattle.codes.specs.Codes.{leadOf, wordBytesOf}
 use Rattle.scan.specs.declared.State.{State}
-use Rattle.scan.specs.Fit.{fitb}
+use Rattle.runs.specs.Runs.{over}
+use Rattle.body.specs.declared.Answer.{Answer}
+use Rattle.body.specs.declared.Answer.the-variants.{GoingOn, Stopped, Refused}
 use Rattle.body.specs.Calls.{portion, written as wrote}
 use Rattle.rules.specs.Tape.{Body, byteAt}
 use Rattle.rules.specs.Scans.{Shape}
 use Rattle.rules.specs.Faults.{byteFault, endFault}
 use Rattle.rules.specs.First.{Stops}
 use Rattle.rules.specs.Samples.{groupBegins, wordBegins, leadAt, wordAt, numbersAt}
-use Rattle.rules.specs.Outcome.{stopOf, doneOf, numbersOf}
+use Rattle.rules.specs.Outcome.{Report, report, stopOf, doneOf, numbersOf, closing}
 use Rattle.agree.specs.Agreement.{Agreement}
 
 -- "A portion needs twice its length in output numbers"
@@ -27,6 +29,25 @@ Enough bs room = length bs ≤ room / 2
 pub record TwoAreOne (s : State) (a b : List ℕ) (m n k : ℕ) : Type 0 where
   pub state : portion (portion s a m .state) b n .state ≡ portion s (a ++ b) k .state
   pub samples : wrote s a m ++ wrote (portion s a m .state) b n ≡ wrote s (a ++ b) k
+
+-- how many samples an answer says were written
+abbrev pub samplesIn : Answer → ℕ
+samplesIn (GoingOn n) = n
+samplesIn (Stopped n r) = n
+samplesIn (Refused r) = 0
+
+-- the numbers of those samples, and the caller's output after the portion
+abbrev told : State → List ℕ → List ℤ → ℕ
+told s bs out = 2 * samplesIn (portion s bs (length out) .answer)
+
+abbrev pub outputOf : State → List ℕ → List ℤ → List ℤ
+outputOf s bs out = over (wrote s bs (length out)) out
+
+-- "A portion answers how many samples it wrote": as many are at the front of the caller's output, and "Output past the samples written
+-- is untouched"
+pub record Output (s : State) (bs : List ℕ) (out : List ℤ) : Type 0 where
+  pub front : take (told s bs out) (outputOf s bs out) ≡ wrote s bs (length out)
+  pub rest : drop (told s bs out) (outputOf s bs out) ≡ drop (told s bs out) out
 
 -- "each sample gives M then X": the numbers of a body are two for each sample before its stop, those of sample n at 2 n. Sample k of
 -- scan j is sample j x S/S + k, and is read at its place in the B bytes of its scan: its word, and the exponents of its group.
@@ -43,7 +64,11 @@ pub record Demand3 : Type 0 where
   -- before its stop, and each next call and the closing question answer what its rules give
   pub agrees : Agreement
   -- in particular two portions are one
-  pub cuts : (s : State) (a b : List ℕ) → fitb s ≡ true → (m n k : ℕ) → Enough a m → Enough b n → Enough (a ++ b) k → TwoAreOne s a b m n k
+  pub cuts : (s : State) (a b : List ℕ) (m n k : ℕ) → Enough a m → Enough b n → Enough (a ++ b) k → TwoAreOne s a b m n k
+  -- what a portion writes is what the caller then has
+  pub seen : (s : State) (bs : List ℕ) (out : List ℤ) → Output s bs out
+  -- the samples that a report counts are those written
+  pub owed : (sh : Shape) (d : Body) (t : Report) → closing sh d ≡ report t → doneOf sh d ≡ t .samples
   -- the samples of the uncut body are there one by one
   pub order : (sh : Shape) (d : Body) → InOrder sh d
   -- the stop of the rules is the first fault on the tape: what it names has that fault, and nothing before it has any

@@ -103,7 +103,8 @@ module _ (sh : Shape) (d : Body) where
         window = firstWindow sh (byteAt d) scansOf;
       }
 
-  -- "Closing: earlier stop, 19, 20, 21": inside a scan; bytes after the last block end; fewer scan types seen than ST/R
+  -- "Closing: 23, earlier stop, 19, 20, 21", without 23 since there is no state here: inside a scan; bytes after the last block end;
+  -- fewer scan types seen than ST/R
   abbrev pub closingFault : Fault
   closingFault =
       orElse stopOf
