@@ -12,7 +12,7 @@ use crate::byte::timed;
 use scan::State;
 ghost use mathlib.Core.Path.{_≡_};
 ghost use mathlib.Core.Bool.{true};
-ghost use Prim.Native.Nat.{_+_, _*_, _≤_, _<_};
+ghost use Prim.Native.Nat.{_+_, _*_, _≤_};
 ghost use lib.ListN.{length, take, drop};
 ghost use Rattle.codes.specs.Codes.{groupOf};
 ghost use Rattle.scan.specs.Fit.{Fit};

@@ -1,6 +1,6 @@
 -- What a descriptor that is not refused keeps, and the samples of a scan whose sets all go by four.
 -- Assumes nothing.
-use Prim.Native.Nat.{ℕ, zero, suc, _+_, _*_, _%_, _^_, _≤_, _<_}
+use Prim.Native.Nat.{ℕ, zero, suc, _+_, _*_, _%_, _≤_, _<_}
 use mathlib.Core.Path.{_≡_, refl}
 use mathlib.Core.Bool.{Bool, true, false, not, _||_, and-false, false≢true}
 use mathlib.Core.List.{List}

@@ -1,7 +1,7 @@
 -- `listing::put_decimal` meets its contract: the kit's digits, no more than 20.
 -- Assumes nothing.
-use Prim.Native.Nat.{_+_, _≤_, _<_}
-use mathlib.Core.Path.{_≡_, _∙_}
+use Prim.Native.Nat.{_≤_}
+use mathlib.Core.Path.{_∙_}
 use native.Mathlib.Omega.{arith}
 use Rattle.listing.proofs.Decimal.{at-most-20, decimal-is}
 use borrow.Author.Needs.{needs}
