@@ -18,9 +18,9 @@ use Rattle.header.proofs.Accepted.{types-few}
 use Rattle.header.specs.Answers.{headerOf, headerAnswer}
 use Rattle.scan.specs.declared.State.{State}
 use Rattle.scan.specs.Fit.{fitb}
-use Rattle.body.specs.declared.Answer.{Answer as Given}
+use Rattle.stream.specs.declared.Answer.{Answer as Given}
 use Rattle.body.proofs.Opens.{took, fresh-fit, unfit-not}
-use Rattle.body.specs.Calls as K
+use Rattle.stream.specs.Calls as K
 use Rattle.body.specs.Ends as N
 use Rattle.body.specs.Open as O
 use Rattle.rules.specs.Tape.{Body}

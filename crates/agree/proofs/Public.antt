@@ -18,10 +18,11 @@ use Rattle.scan.specs.Step as S
 use Rattle.scan.specs.Fit.{fitb}
 use Rattle.scan.proofs.Shapes.{fit-of, of-fit}
 use Rattle.scan.proofs.Keep.{fit-after}
-use Rattle.body.proofs.Cuts.{portion-state, portion-wrote, portion-fit, end-fit}
-use Rattle.body.specs.declared.Gave.{Gave}
-use Rattle.body.specs.declared.Answer.the-variants as A
-use Rattle.body.specs.Calls as K
+use Rattle.stream.proofs.Cuts.{portion-state, portion-wrote, portion-fit}
+use Rattle.body.proofs.BlockEnds.{end-fit}
+use Rattle.stream.specs.declared.Gave.{Gave}
+use Rattle.stream.specs.declared.Answer.the-variants as A
+use Rattle.stream.specs.Calls as K
 use Rattle.body.specs.Ends as N
 use Rattle.rules.specs.Cuts.{portion, blockEnd}
 use Rattle.rules.proofs.Machine.{Run, pieces}

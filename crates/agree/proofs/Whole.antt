@@ -25,13 +25,13 @@ use Rattle.scan.specs.declared.State.{State}
 use Rattle.scan.specs.declared.Stepped.{Stepped}
 use Rattle.scan.specs.Step as S
 use Rattle.scan.proofs.Fold.{step-stopped}
-use Rattle.body.specs.declared.Gave.{Gave}
+use Rattle.stream.specs.declared.Gave.{Gave}
 use Rattle.body.specs.declared.Itb.the-variants as I
 use Rattle.body.specs.declared.Window.{Window}
 use Rattle.body.specs.declared.Window.the-variants as W
 use Rattle.body.specs.declared.Closed.the-variants as C
-use Rattle.body.specs.declared.Answer.the-variants as A
-use Rattle.body.specs.Calls as K
+use Rattle.stream.specs.declared.Answer.the-variants as A
+use Rattle.stream.specs.Calls as K
 use Rattle.body.specs.Ends as N
 use Rattle.body.specs.Open as O
 use Rattle.body.specs.declared.Closing as B

@@ -13,7 +13,7 @@ use Rattle.rules.specs.Scans.{shapeOf}
 use Rattle.rules.specs.Outcome.{numbersOf, closing}
 use Rattle.scan.specs.Fit.{fitb}
 use Rattle.body.specs.declared.Opening.the-variants as P
-use Rattle.body.specs.Calls as K
+use Rattle.stream.specs.Calls as K
 use Rattle.body.specs.Ends as N
 use Rattle.body.specs.Open as O
 use Rattle.agree.specs.Calls.{Call, put, end, Bytes, BytesIn, readingOf, bodyOf}

@@ -11,8 +11,8 @@ use Rattle.refusals.specs.declared.Fault.{Fault}
 use Rattle.refusals.specs.declared.Fault.the-variants.{Clear, At}
 use Rattle.rules.specs.Scans.{Shape}
 use Rattle.rules.specs.Outcome.{Closing, refused, report, stopOf, doneOf}
-use Rattle.body.specs.declared.Answer.{Answer}
-use Rattle.body.specs.declared.Answer.the-variants.{GoingOn, Stopped, Refused}
+use Rattle.stream.specs.declared.Answer.{Answer}
+use Rattle.stream.specs.declared.Answer.the-variants.{GoingOn, Stopped, Refused}
 use Rattle.body.specs.declared.Itb.{Itb}
 use Rattle.body.specs.declared.Itb.the-variants as I
 use Rattle.body.specs.declared.Window.{Window}

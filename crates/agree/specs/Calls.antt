@@ -9,7 +9,7 @@ use Rattle.basis.specs.Choice.{pick}
 use Rattle.rules.specs.Tape.{Body}
 use Rattle.rules.specs.Cuts.{Piece, portion, blockEnd, spelled}
 use Rattle.scan.specs.declared.State.{State}
-use Rattle.body.specs.Calls as K
+use Rattle.stream.specs.Calls as K
 use Rattle.body.specs.Ends as N
 use Rattle.body.specs.Open as O
 

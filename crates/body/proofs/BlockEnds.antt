@@ -1,16 +1,22 @@
--- A block end that is due, and the state after it.
+-- A block end that is due, and that the state after any block end is fit.
 -- Assumes nothing.
 use Prim.Native.Nat.{ℕ, _+_, _/_, _%_, _≤_, _<_}
-use mathlib.Core.Path.{_≡_}
+use mathlib.Core.Path.{_≡_, refl}
 use mathlib.Core.Bool.{true}
 use native.Mathlib.Nat.{div-le-self}
 use native.Mathlib.Omega.{arith}
 use borrow.Author.Tests.{eqb-true, ltb-true}
-use Rattle.basis.proofs.Choices.{both-true}
+use Rattle.basis.specs.Choice.{_and_, _or_}
+use Rattle.basis.proofs.Choices.{both-true, pick-both}
 use Rattle.scan.specs.declared.State.{State}
-use Rattle.scan.specs.Fit.{Fit}
-use Rattle.scan.proofs.Choices.{pick-true}
-use Rattle.body.specs.Ends.{due, oneEnd}
+use Rattle.scan.specs.Fit.{Fit, fitb, stopb}
+use Rattle.scan.specs.Step.{halted}
+use Rattle.scan.proofs.Choices.{pick-true, pick-cases}
+use Rattle.scan.proofs.Shapes.{fit-of, of-fit}
+use Rattle.scan.proofs.Keep.{fit-halted}
+use Rattle.stream.specs.declared.Gave.{Gave}
+use Rattle.stream.specs.Calls.{unchanged}
+use Rattle.body.specs.Ends.{due, oneEnd, ended, blockEnd}
 
 -- it comes after a scan more than there were ends
 pub due-ends : (block scans part ends : ℕ) → due block scans part ends ≡ true → ends + 1 ≤ scans
@@ -37,3 +43,10 @@ fit-end s f h =
       types = f .types;
       some = f .some;
     }
+
+-- what a block end gives back of a fit state is fit, whatever it answers
+pub end-fit : (s : State) → fitb s ≡ true → fitb (blockEnd s .state) ≡ true
+unfolding blockEnd ended unchanged stopb _or_ _and_
+end-fit s f =
+    let P : Gave → Type 0 = λ g. fitb (g .state) ≡ true in
+    pick-both P _ (pick-both P _ (pick-cases P _ (λ e. of-fit (oneEnd s) (fit-end s (fit-of s f) e)) (λ e. of-fit (halted s 15) (fit-halted s 15 (fit-of s f) refl))) f) f

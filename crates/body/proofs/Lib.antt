@@ -1,15 +1,2 @@
-pub mod Readers
-pub mod Spots
-pub mod Held
-pub mod Turns
-pub mod Words
-pub mod Starts
-pub mod Whole
-pub mod Choose
-pub mod Spelling
-pub mod Parts
-pub mod Going
 pub mod BlockEnds
-pub mod Cuts
-pub mod Stops
 pub mod Opens

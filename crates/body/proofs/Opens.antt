@@ -26,7 +26,7 @@ use Rattle.header.proofs.Accepted.{accepted, multiplexed, types-few, interval-i
 use Rattle.scan.specs.declared.Shape.{Shape}
 use Rattle.scan.specs.Fit.{fitb, countsb, heardb, shapeb, wholeb, limitsb, stopb}
 use Rattle.body.specs.Open.{shapeOf, fresh, unfit, opened}
-use Rattle.body.proofs.Readers.{row-some}
+use Rattle.stream.proofs.Readers.{row-some}
 
 -- the header of an answer, or another
 abbrev told : Header → Answer → Header

@@ -12,15 +12,15 @@ use Rattle.scan.specs.declared.Track.{Track}
 use Rattle.scan.specs.declared.State.{State}
 use Rattle.scan.specs.Fit.{fitb}
 use Rattle.scan.specs.Step.{halted}
-use Rattle.body.specs.declared.Gave.{Gave}
-use Rattle.body.specs.declared.Answer.the-variants.{GoingOn, Stopped}
+use Rattle.stream.specs.declared.Gave.{Gave}
+use Rattle.stream.specs.declared.Answer.the-variants.{GoingOn, Stopped}
 use Rattle.body.specs.declared.Itb.the-variants as I
 use Rattle.body.specs.declared.Window.{Window}
 use Rattle.body.specs.declared.Window.the-variants as W
 use Rattle.body.specs.declared.Report.{Report}
 use Rattle.body.specs.declared.Closed.the-variants as C
 use Rattle.body.specs.declared.Closing.{Closing}
-use Rattle.body.specs.Calls.{stopOf, answered, unchanged}
+use Rattle.stream.specs.Calls.{stopOf, answered, unchanged}
 
 -- "a block end is due after each": after some scans and `part` bytes of the next; a body of one block ends once
 unfoldable pub due : ℕ → ℕ → ℕ → ℕ → Bool

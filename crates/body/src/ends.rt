@@ -1,17 +1,16 @@
 // Block ends, and the closing question.
-use crate::Answer;
 use crate::Closed;
 use crate::Closing;
-use crate::Gave;
 use crate::Itb;
 use crate::Report;
 use crate::Window;
-use crate::feed::answered;
-use crate::feed::stop_of;
 use refusals::Refusal;
 use scan::Shape;
 use scan::State;
 use scan::Track;
+use stream::Answer;
+use stream::Gave;
+use stream::stop_of;
 ghost use mathlib.Core.Path.{_≡_};
 ghost use Prim.Native.Nat.{_*_, _≤_, _<_};
 ghost use Rattle.codes.specs.Codes.{groupOf};
@@ -48,10 +47,12 @@ pub(crate) fn end(s: State) -> Gave
 {
     let mut t = s;
     if s.stop != 0 {
-        let a = answered(s, 0);
         return Gave {
             state: t,
-            answer: a,
+            answer: Answer::Stopped {
+                samples: 0,
+                refusal: stop_of(s.stop, s.stopat),
+            },
         };
     }
     if due(

@@ -1,18 +1,12 @@
-// The multiplexed body of a record, streamed: a state by value, fed with portions of bytes and with block ends.
+// The multiplexed body of a record, streamed: its opening, its block ends and its closing. `stream` takes its bytes.
 mod begin;
-mod bulk;
-mod byte;
 mod ends;
-mod entries;
-mod feed;
-mod start;
 
 use refusals::Refusal;
 use scan::State;
+use stream::Answer;
+use stream::Gave;
 ghost use mathlib.Core.Path.{_≡_};
-ghost use lib.ListN.{length};
-ghost use Rattle.runs.specs.Runs.{over};
-ghost use Rattle.body.specs.Calls as Calls;
 ghost use Rattle.body.specs.Ends as Ends;
 ghost use Rattle.body.specs.Open as Open;
 
@@ -26,20 +20,6 @@ pub enum Opening {
 pub struct Opened {
     pub state: State,
     pub answer: Opening,
-}
-
-// What a portion or a block end answers.
-pub enum Answer {
-    GoingOn { samples: usize },
-    // one of 14 to 18, with its place
-    Stopped { samples: usize, refusal: Refusal },
-    // nothing is changed and nothing stopped
-    Refused(Refusal),
-}
-
-pub struct Gave {
-    pub state: State,
-    pub answer: Answer,
 }
 
 // ITB of the first scan; a body that has none says so.
@@ -75,12 +55,6 @@ pub struct Closing {
     pub report: Report,
 }
 
-// Some bytes at once: the state after them, and the numbers that they wrote.
-struct Chunk {
-    state: State,
-    wrote: usize,
-}
-
 // Opening on a header block: the state before the first byte; all zero, and so unfit, where the header is refused.
 pub fn open(block: &[u8]) -> Opened
     ensures { λ r. ⌜ r ≡ Open.opened (now (block .entry)) ⌝ }
@@ -95,21 +69,6 @@ pub fn open(block: &[u8]) -> Opened
             state: begin::unfit(),
             answer: Opening::Refused(r),
         },
-    }
-}
-
-// A portion of the body's bytes. Each sample that it completes goes to `out`, M and then X.
-pub fn portion(s: State, bytes: &[u8], out: &mut [i32]) -> Gave
-    ensures { λ r. ⌜ r ≡ Calls.portion s (now (bytes .entry)) (length (now (out .entry))) ⌝ }
-    ensures { λ r. ⌜ now (out .exit) ≡ over (Calls.written s (now (bytes .entry)) (length (now (out .entry)))) (now (out .entry)) ⌝ }
-{
-    if scan::fit(s) {
-        feed::by_row(s, bytes, out)
-    } else {
-        Gave {
-            state: s,
-            answer: Answer::Refused(Refusal::State),
-        }
     }
 }
 

@@ -7,9 +7,9 @@ use Rattle.scan.specs.declared.State.{State}
 use Rattle.body.specs.declared.Opening.{Opening}
 use Rattle.body.specs.declared.Opening.the-variants as opening
 use Rattle.body.specs.declared.Opened.{Opened}
-use Rattle.body.specs.declared.Answer.{Answer}
-use Rattle.body.specs.declared.Answer.the-variants.{GoingOn, Stopped, Refused}
-use Rattle.body.specs.declared.Gave.{Gave}
+use Rattle.stream.specs.declared.Answer.{Answer}
+use Rattle.stream.specs.declared.Answer.the-variants.{GoingOn, Stopped, Refused}
+use Rattle.stream.specs.declared.Gave.{Gave}
 use Rattle.body.specs.declared.Itb.{Itb}
 use Rattle.body.specs.declared.Itb.the-variants as itb
 use Rattle.body.specs.declared.Window.{Window}

@@ -3,18 +3,18 @@ ghost use mathlib.Core.Path.{_≡_};
 ghost use lib.ListN.{length};
 ghost use Rattle.runs.specs.Runs.{over};
 ghost use Rattle.body.specs.Open.{opened};
-ghost use Rattle.body.specs.Calls.{portion, written};
+ghost use Rattle.stream.specs.Calls.{portion, written};
 ghost use Rattle.body.specs.Ends.{blockEnd, close};
 ghost use Rattle.deck.specs.Bodies.{flatOpened, flatAnswer, flatGave, flatClosing, itbKnown, itbBit, windowKnown, windowAt};
 use crate::clear;
-use body::Answer;
 use body::Closed;
-use body::Gave;
 use body::Itb;
 use body::Opening;
 use body::Window;
 use refusals::Told;
 use scan::State;
+use stream::Answer;
+use stream::Gave;
 
 // The state before the first byte; or the header's refusal, with a state that every call refuses.
 #[repr(C)]
@@ -84,7 +84,7 @@ pub extern "C" fn segd_portion(state: State, bytes: &[u8], out: &mut [i32]) -> S
     ensures { λ r. ⌜ r ≡ flatGave (portion state (now (bytes .entry)) (length (now (out .entry)))) ⌝ }
     ensures { λ r. ⌜ now (out .exit) ≡ over (written state (now (bytes .entry)) (length (now (out .entry)))) (now (out .entry)) ⌝ }
 {
-    gave(body::portion(state, bytes, out))
+    gave(stream::portion(state, bytes, out))
 }
 
 #[no_mangle]

@@ -37,7 +37,7 @@ use Rattle.words.proofs.Parts.{taken}
 use Rattle.header.proofs.Accepted.{descriptor-inside, subscans-small, skew-inside, same-samples}
 use Rattle.layout.proofs.WordLaws.{words-apart, word-inside, words-fill}
 use Rattle.body.proofs.Opens.{open-unfit}
-use Rattle.body.proofs.Stops.{stop-said}
+use Rattle.stream.proofs.Stops.{stop-said}
 use Rattle.parts.specs.declared.Skewed.the-variants.{Skew}
 use Rattle.parts.specs.declared.Timed.the-variants.{Time}
 use Rattle.parts.specs.Skews.{sheetHolds, skewByte, skewByteFault, skewAfter, skewAnswer}
@@ -49,7 +49,7 @@ use Rattle.rules.specs.Outcome.{doneOf}
 use Rattle.rules.proofs.Laws.{stop-first}
 use Rattle.scan.specs.declared.State.{State}
 use Rattle.scan.specs.Fit.{fitb}
-use Rattle.body.specs.Calls.{portion, taken as takenPortion, written, kept}
+use Rattle.stream.specs.Calls.{portion, taken as takenPortion, written, kept}
 use Rattle.body.specs.Ends.{blockEnd, close}
 use Rattle.agree.proofs.Agreement.{agreement, turned-away}
 use Rattle.framing.proofs.Framed.{framed}

@@ -16,9 +16,9 @@ use Rattle.scan.specs.declared.State.{State}
 use Rattle.scan.specs.declared.Stepped.{Stepped}
 use Rattle.scan.specs.Fit.{fitb}
 use Rattle.scan.specs.Step.{after, wrote, step, pair}
-use Rattle.body.specs.declared.Answer.{Answer}
-use Rattle.body.specs.Calls.{portion, taken, fed, unchanged, written, kept, answered}
-use Rattle.body.proofs.Cuts.{cut-state, cut-wrote}
+use Rattle.stream.specs.declared.Answer.{Answer}
+use Rattle.stream.specs.Calls.{portion, taken, fed, unchanged, written, kept, answered}
+use Rattle.stream.proofs.Cuts.{cut-state, cut-wrote}
 use Rattle.demands.specs.Demand3.{TwoAreOne, samplesIn, Output}
 
 -- ---- two portions are one, of every state: an unfit one stays as it is

@@ -16,11 +16,12 @@ use Rattle.refusals.specs.declared.Refusal.the-variants as refusal
 use Rattle.scan.specs.declared.State.{State}
 use Rattle.scan.specs.Fit.{fitb}
 use Rattle.scan.specs.Step.{after, wrote, halted}
-use Rattle.body.specs.declared.Gave.{Gave}
-use Rattle.body.specs.declared.Answer.the-variants.{GoingOn, Stopped}
-use Rattle.body.specs.Calls.{portion, taken, fed, written, kept, answered, unchanged, stopOf}
+use Rattle.stream.specs.declared.Gave.{Gave}
+use Rattle.stream.specs.declared.Answer.the-variants.{GoingOn, Stopped}
+use Rattle.stream.specs.Calls.{portion, taken, fed, written, kept, answered, unchanged, stopOf}
 use Rattle.body.specs.Ends.{blockEnd, ended, oneEnd, due, close, finish, refused}
-use Rattle.body.proofs.Cuts.{portion-fit, end-fit}
+use Rattle.stream.proofs.Cuts.{portion-fit}
+use Rattle.body.proofs.BlockEnds.{end-fit}
 use Rattle.agree.specs.Calls.{Call, put, end, readOn}
 use Rattle.demands.specs.Demand1.{SameStop, stands}
 

@@ -69,6 +69,7 @@ unique = record {
   groups15 = λ κ a z z′ e e′. one-within;
   groups15-content = λ κ a z z′ e e′ p q. one-answer (p .1) (q .1);
   body-open = λ κ a z z′ e e′. one-answer;
+  stop-of = λ κ a z z′ e e′. one-answer;
   portion = λ κ a z z′ e e′. one-within;
   portion-content = λ κ a z z′ e e′ p q. one-answer (p .1) (q .1);
   block-end = λ κ a z z′ e e′. one-answer;

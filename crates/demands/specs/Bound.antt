@@ -18,7 +18,7 @@ use Rattle.parts.specs.Parts.{extendedPlace, externalPlace, constantsPart, exte
 use Rattle.parts.specs.Skews.{skewFault, skewPart, skewAnswer}
 use Rattle.parts.specs.Times.{timeAnswer}
 use Rattle.body.specs.Open.{opened}
-use Rattle.body.specs.Calls.{portion}
+use Rattle.stream.specs.Calls.{portion}
 use Rattle.body.specs.Ends.{blockEnd, close}
 use Rattle.framing.specs.Next.{endingOf, nextOf}
 use Rattle.lister.specs.Turn.{turnOf, turnHeader, turnNumbers, turnLine}
@@ -42,7 +42,7 @@ use Rattle.parts.proofs.skew_at.Reads as parts-skew-at
 use Rattle.parts.proofs.sample_time.Reads as parts-sample-time
 use Rattle.view.proofs.place_in.Reads as view-place-in
 use Rattle.body.proofs.open.Reads as body-open
-use Rattle.body.proofs.portion.Reads as body-portion
+use Rattle.stream.proofs.portion.Reads as stream-portion
 use Rattle.body.proofs.block_end.Reads as body-block-end
 use Rattle.body.proofs.close.Reads as body-close
 use Rattle.framing.proofs.next.Reads as framing-next
@@ -125,8 +125,8 @@ pub record Bound : Type 0 where
   pub sample-time : Is parts-sample-time.Post (λ κ a. timeAnswer (first a .now) (second a .now) (third a) (fourth a) (fifth a))
   -- the body: a portion answers, and leaves in the output what it wrote over its front
   pub opens : Is body-open.Post (λ κ a. opened (first a .now))
-  pub portions : Is body-portion.Post (λ κ a. portion (first a) (second a .now) (length (third a .now)))
-  pub output : Leaves body-portion.Post (λ κ e. third e .now) (λ κ a. outputOf (first a) (second a .now) (third a .now))
+  pub portions : Is stream-portion.Post (λ κ a. portion (first a) (second a .now) (length (third a .now)))
+  pub output : Leaves stream-portion.Post (λ κ e. third e .now) (λ κ a. outputOf (first a) (second a .now) (third a .now))
   pub block-ends : Is body-block-end.Post (λ κ a. blockEnd (first a))
   pub closes : Is body-close.Post (λ κ a. close (first a))
   -- the same for a deck, laid flat

@@ -14,9 +14,9 @@ use Rattle.refusals.specs.Table.{said}
 use Rattle.header.specs.declared.Answer.the-variants.{Refused}
 use Rattle.header.specs.Answers.{headerAnswer}
 use Rattle.scan.specs.Fit.{stopb, fitb}
-use Rattle.body.specs.declared.Gave.{Gave}
-use Rattle.body.specs.declared.Answer.the-variants.{Stopped}
-use Rattle.body.specs.Calls as calls
+use Rattle.stream.specs.declared.Gave.{Gave}
+use Rattle.stream.specs.declared.Answer.the-variants.{Stopped}
+use Rattle.stream.specs.Calls as calls
 use Rattle.body.specs.Ends as ends
 use Rattle.body.specs.Open.{opened}
 use Rattle.agree.specs.Calls.{Call, readOn}

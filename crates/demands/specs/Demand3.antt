@@ -9,9 +9,9 @@ use Rattle.basis.specs.Digits.{written}
 use Rattle.codes.specs.Codes.{leadOf, wordBytesOf}
 use Rattle.scan.specs.declared.State.{State}
 use Rattle.runs.specs.Runs.{over}
-use Rattle.body.specs.declared.Answer.{Answer}
-use Rattle.body.specs.declared.Answer.the-variants.{GoingOn, Stopped, Refused}
-use Rattle.body.specs.Calls.{portion, written as wrote}
+use Rattle.stream.specs.declared.Answer.{Answer}
+use Rattle.stream.specs.declared.Answer.the-variants.{GoingOn, Stopped, Refused}
+use Rattle.stream.specs.Calls.{portion, written as wrote}
 use Rattle.rules.specs.Tape.{Body, byteAt}
 use Rattle.rules.specs.Scans.{Shape}
 use Rattle.rules.specs.Faults.{byteFault, endFault}

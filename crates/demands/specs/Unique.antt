@@ -59,7 +59,8 @@ use Rattle.runs.proofs.words44.Reads as runs-words44
 use Rattle.runs.proofs.words48.Reads as runs-words48
 use Rattle.runs.proofs.groups15.Reads as runs-groups15
 use Rattle.body.proofs.open.Reads as body-open
-use Rattle.body.proofs.portion.Reads as body-portion
+use Rattle.stream.proofs.stop_of.Reads as stream-stop-of
+use Rattle.stream.proofs.portion.Reads as stream-portion
 use Rattle.body.proofs.block_end.Reads as body-block-end
 use Rattle.body.proofs.close.Reads as body-close
 use Rattle.view.proofs.place_in.Reads as view-place-in
@@ -152,8 +153,9 @@ pub record Unique : Type 0 where
   pub groups15 : OneAnswer runs-groups15.Post
   pub groups15-content : OneContent runs-groups15.Post (λ κ e. e .1 .0 .now)
   pub body-open : OneAnswer body-open.Post
-  pub portion : OneAnswer body-portion.Post
-  pub portion-content : OneContent body-portion.Post (λ κ e. e .1 .1 .0 .now)
+  pub stop-of : OneAnswer stream-stop-of.Post
+  pub portion : OneAnswer stream-portion.Post
+  pub portion-content : OneContent stream-portion.Post (λ κ e. e .1 .1 .0 .now)
   pub block-end : OneAnswer body-block-end.Post
   pub body-close : OneAnswer body-close.Post
   pub place-in : OneAnswer view-place-in.Post

@@ -15,7 +15,7 @@ use Rattle.rules.specs.Outcome.{Closing, refused, report}
 use Rattle.body.specs.declared.Closed.{Closed}
 use Rattle.body.specs.declared.Closed.the-variants as C
 use Rattle.body.specs.declared.Closing as B
-use Rattle.body.specs.Calls.{stopOf}
+use Rattle.stream.specs.Calls.{stopOf}
 use Rattle.body.specs.Ends as N
 use Rattle.agree.specs.Answers as G
 use Rattle.listing.specs.declared.Outcome.the-variants as O

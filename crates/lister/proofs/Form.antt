@@ -32,7 +32,8 @@ use Rattle.lister.specs.declared.file.Said.the-variants.{Nothing, Line}
 use Rattle.lister.specs.Listing.{bodyIn, byHeader, outcomeOf}
 use Rattle.lister.specs.File.{partOf, itemEnd, headedBy, closedOf, saidOf}
 use Rattle.scan.proofs.Fold.{after-append}
-use Rattle.body.proofs.Cuts.{portion-state, end-fit}
+use Rattle.stream.proofs.Cuts.{portion-state}
+use Rattle.body.proofs.BlockEnds.{end-fit}
 use Rattle.lister.specs.Turn.{nextNumber}
 use Rattle.lister.proofs.Bytes.{Items}
 use Rattle.lister.proofs.Reader.{open-fit, after-fit, after-none, stateAfter, closes}

@@ -18,9 +18,9 @@ use Rattle.scan.proofs.Choices.{pick-cases}
 use Rattle.header.specs.declared.Header.{Header}
 use Rattle.header.specs.declared.Answer.the-variants.{Accepted}
 use Rattle.header.specs.Answers.{headerAnswer}
-use Rattle.body.specs.declared.Gave.{Gave}
+use Rattle.stream.specs.declared.Gave.{Gave}
 use Rattle.body.specs.Open.{opened, fresh}
-use Rattle.body.specs.Calls.{unchanged}
+use Rattle.stream.specs.Calls.{unchanged}
 use Rattle.body.specs.Ends.{oneEnd, ended, blockEnd}
 use Rattle.framing.specs.Cuts.{joined}
 use Rattle.lister.proofs.Reader.{stateAfter}

@@ -24,10 +24,11 @@ use Rattle.runs.specs.Runs.{over}
 use Rattle.rules.specs.Tape.{Body}
 use Rattle.rules.specs.Scans.{shapeOf}
 use Rattle.rules.specs.Outcome.{closing}
-use Rattle.body.specs.Calls.{portion, written, kept}
+use Rattle.stream.specs.Calls.{portion, written, kept}
 use Rattle.body.specs.Ends.{blockEnd, close}
 use Rattle.body.specs.Open.{opened}
-use Rattle.body.proofs.Cuts.{portion-state, portion-fit, end-fit}
+use Rattle.stream.proofs.Cuts.{portion-state, portion-fit}
+use Rattle.body.proofs.BlockEnds.{end-fit}
 use Rattle.agree.specs.Calls as G
 use Rattle.agree.specs.Calls.{Bytes, Call, put, end, BytesIn, readOn}
 use Rattle.agree.specs.Answers.{closedOf}

@@ -13,7 +13,7 @@ use Rattle.header.specs.Answers.{headerAnswer}
 use Rattle.scan.specs.declared.State.{State}
 use Rattle.runs.specs.Runs.{over}
 use Rattle.body.specs.Open.{opened}
-use Rattle.body.specs.Calls.{portion, written}
+use Rattle.stream.specs.Calls.{portion, written}
 use Rattle.body.specs.Ends.{blockEnd, close}
 use Rattle.body.specs.declared.Closed.{Closed}
 use Rattle.body.specs.declared.Closed.the-variants as C

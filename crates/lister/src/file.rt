@@ -61,7 +61,7 @@ pub(crate) fn part(f: File, bytes: &[u8], header: &mut [u8], numbers: &mut [i32]
             format,
             state,
         } => {
-            let g = body::portion(state, bytes, numbers);
+            let g = stream::portion(state, bytes, numbers);
             let next = g.state;
             File::Blocks {
                 file,

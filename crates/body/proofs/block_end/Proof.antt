@@ -1,6 +1,6 @@
 -- `body::block_end` meets its contract.
 -- Assumes nothing.
-use Rattle.body.specs.Calls.{unchanged}
+use Rattle.stream.specs.Calls.{unchanged}
 use Rattle.scan.proofs.Shapes.{fit-of}
 use mathlib.Core.Path.{sym, _∙_}
 use Rattle.body.specs.Ends.{blockEnd}

@@ -5,6 +5,7 @@ use Rattle.body.proofs.BlockEnds.{due-ends}
 use mathlib.Core.Path.{sym, _∙_}
 use Rattle.body.specs.Ends.{ended, oneEnd}
 use Rattle.scan.specs.Step.{halted}
+use Rattle.stream.specs.Calls.{answered}
 use Rattle.basis.specs.Choice.{pick}
 use Rattle.basis.proofs.Rules.{tests}
 use native.Mathlib.Omega.{arith}
@@ -12,12 +13,12 @@ use borrow.Author.Needs.{needs}
 use Rattle.body.proofs.ends.end.Statement.{statement}
 use Rattle.body.proofs.ends.end.Tie as tie
 
-answered-requires : tie.Need-answered-requires
-answered-requires c κs = search needs
+stop-of-requires : tie.Need-stop-of-requires
+stop-of-requires c κs = search needs
 
 returns : tie.Need-returns
-unfolding ended oneEnd halted pick
-returns c = search (tests, c .before .if1 .taken, c .answered .ensures)
+unfolding ended oneEnd halted answered pick
+returns c = search (tests, c .before .if1 .taken, c .stop-of .ensures)
 
 div-due : tie.Need-div-due
 div-due c = search needs
@@ -45,4 +46,4 @@ returns-3 c = search (tests, sym (c .before .due .ensures) ∙ c .if2 .left, c .
 pub end-spec : {M : Type 1} → statement M
 end-spec =
     tie.close
-    (tie.spec answered-requires returns div-due rem-due due-requires add-t returns-2 returns-3)
+    (tie.spec stop-of-requires returns div-due rem-due due-requires add-t returns-2 returns-3)

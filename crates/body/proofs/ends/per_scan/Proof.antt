@@ -3,7 +3,7 @@
 use Rattle.body.specs.Ends.{perScan}
 use mathlib.Core.Path.{sym, _∙_}
 use native.Mathlib.Nat.{mul-one}
-use Rattle.body.proofs.Readers.{per-four, per-one}
+use Rattle.stream.proofs.Readers.{per-four, per-one}
 use native.Mathlib.Omega.{arith}
 use borrow.Author.Needs.{needs}
 use Rattle.body.proofs.ends.per_scan.Statement.{statement}

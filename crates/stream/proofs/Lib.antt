@@ -1,0 +1,13 @@
+pub mod Readers
+pub mod Spots
+pub mod Held
+pub mod Turns
+pub mod Words
+pub mod Starts
+pub mod Whole
+pub mod Choose
+pub mod Spelling
+pub mod Parts
+pub mod Going
+pub mod Cuts
+pub mod Stops

@@ -1,0 +1,55 @@
+-- "A portion: 23, an earlier stop, 13; then per byte": what a portion answers, the state after it, and what it writes.
+-- Assumes nothing.
+use Prim.Native.Nat.{ℕ, _/_}
+use mathlib.Core.List.{List, []}
+use lib.Dec.{eqb, ltb}
+use lib.IntN.{ℤ}
+use lib.ListN.{length}
+use Rattle.basis.specs.Choice.{pick}
+use Rattle.refusals.specs.declared.Refusal.{Refusal}
+use Rattle.refusals.specs.declared.Refusal.the-variants as R
+use Rattle.scan.specs.declared.State.{State}
+use Rattle.scan.specs.Fit.{fitb}
+use Rattle.scan.specs.Step.{after, wrote}
+use Rattle.stream.specs.declared.Gave.{Gave}
+use Rattle.stream.specs.declared.Answer.{Answer}
+use Rattle.stream.specs.declared.Answer.the-variants.{GoingOn, Stopped, Refused}
+
+-- "14 to 18 stop the body": the refusal of a stop's number and place
+unfoldable pub stopOf : ℕ → ℕ → Refusal
+stopOf number place =
+    pick (eqb number 14) (R.Long place)
+    (pick (eqb number 15) (R.Block place)
+    (pick (eqb number 16) (R.Sync place)
+    (pick (eqb number 17) (R.Timing place) (R.Phase place))))
+
+-- how many samples were written, M and X each, and whether the body has stopped
+unfoldable pub answered : State → ℕ → Answer
+answered s n = pick (eqb (s .stop) 0) (GoingOn (n / 2)) (Stopped (n / 2) (stopOf (s .stop) (s .stopat)))
+
+-- "13 and 23 change nothing and stop nothing"
+unfoldable pub unchanged : State → Refusal → Gave
+unchanged s r = record { state = s; answer = Refused r }
+
+-- byte by byte
+unfoldable pub fed : State → List ℕ → Gave
+fed s bs = record { state = after s bs; answer = answered (after s bs) (length (wrote s bs)) }
+
+-- of a fit state: an earlier stop; ROOM, where fewer numbers than twice the bytes are lent
+unfoldable pub taken : State → List ℕ → ℕ → Gave
+taken s bs room =
+    pick (eqb (s .stop) 0)
+    (pick (ltb (room / 2) (length bs)) (unchanged s R.Room) (fed s bs))
+    (record { state = s; answer = answered s 0 })
+
+-- STATE comes first
+unfoldable pub portion : State → List ℕ → ℕ → Gave
+portion s bs room = pick (fitb s) (taken s bs room) (unchanged s R.State)
+
+-- the numbers that it writes
+unfoldable pub kept : State → List ℕ → ℕ → List ℤ
+kept s bs room = pick (eqb (s .stop) 0) (pick (ltb (room / 2) (length bs)) [] (wrote s bs)) []
+
+-- none from an unfit state
+unfoldable pub written : State → List ℕ → ℕ → List ℤ
+written s bs room = pick (fitb s) (kept s bs room) []

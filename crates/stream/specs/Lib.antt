@@ -1,0 +1,4 @@
+pub mod Calls
+pub mod Bulk
+pub mod Spots
+pub mod Starts

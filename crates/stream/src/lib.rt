@@ -1,0 +1,67 @@
+// A portion of a multiplexed body's bytes: a state by value comes in and goes out, samples go to what is lent.
+mod bulk;
+mod byte;
+mod entries;
+mod feed;
+mod start;
+
+use refusals::Refusal;
+use scan::State;
+ghost use mathlib.Core.Path.{_≡_};
+ghost use lib.ListN.{length};
+ghost use Rattle.runs.specs.Runs.{over};
+ghost use Rattle.stream.specs.Calls as Calls;
+
+// What a portion or a block end answers.
+pub enum Answer {
+    GoingOn { samples: usize },
+    // one of 14 to 18, with its place
+    Stopped { samples: usize, refusal: Refusal },
+    // nothing is changed and nothing stopped
+    Refused(Refusal),
+}
+
+pub struct Gave {
+    pub state: State,
+    pub answer: Answer,
+}
+
+// Some bytes at once: the state after them, and the numbers that they wrote.
+struct Chunk {
+    state: State,
+    wrote: usize,
+}
+
+// The refusal of a stop, by its number.
+pub fn stop_of(number: u32, place: u32) -> Refusal
+    ensures { λ r. ⌜ r ≡ Calls.stopOf number place ⌝ }
+{
+    if number == 14 {
+        return Refusal::Long { place };
+    }
+    if number == 15 {
+        return Refusal::Block { place };
+    }
+    if number == 16 {
+        return Refusal::Sync { place };
+    }
+    if number == 17 {
+        return Refusal::Timing { place };
+    }
+    Refusal::Phase { place }
+}
+
+// A portion of the body's bytes. Each sample that it completes goes to `out`, M and then X.
+pub fn portion(s: State, bytes: &[u8], out: &mut [i32]) -> Gave
+    ensures { λ r. ⌜ r ≡ Calls.portion s (now (bytes .entry)) (length (now (out .entry))) ⌝ }
+    ensures { λ r. ⌜ now (out .exit) ≡ over (Calls.written s (now (bytes .entry)) (length (now (out .entry)))) (now (out .entry)) ⌝ }
+{
+    if scan::fit(s) {
+        feed::by_row(s, bytes, out)
+    } else {
+        Gave {
+            state: s,
+            answer: Answer::Refused(Refusal::State),
+        }
+    }
+}
