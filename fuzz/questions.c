@@ -88,7 +88,7 @@ static void ask_parts(const struct lent_block *lent, const SegdHeader *header)
 }
 
 /* The refusal that a question on skew has to have, as far as it does not ask for more than a scan type. */
-static uint32_t skew_refusal(const struct lent_block *lent, const SegdHeader *header, uint32_t scan_type)
+static uint32_t skew_fault(const struct lent_block *lent, const SegdHeader *header, uint32_t scan_type)
 {
     const SegdGeneral *fields = &header->header;
     if (header->refusal.number != 0)
@@ -103,7 +103,7 @@ static const uint8_t *ask_skew(const struct lent_block *lent, const SegdHeader *
 {
     SegdSkew skew = segd_skew(lent->block, lent->length, lent->sheet, lent->sheet_length, scan_type);
     came_up(CALL_SKEW, skew.refusal.number, header->header.code);
-    DEMAND(skew.refusal.number == skew_refusal(lent, header, scan_type));
+    DEMAND(skew.refusal.number == skew_fault(lent, header, scan_type));
     if (skew.refusal.number != 0) {
         DEMAND(skew.of_sheet == 0 && skew.offset == 0 && skew.length == 0);
         return NULL;

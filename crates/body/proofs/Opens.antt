@@ -24,7 +24,7 @@ use Rattle.header.specs.Faults.{headerFault}
 use Rattle.header.specs.Answers.{headerOf, headerAnswer, answerAfter}
 use Rattle.header.proofs.Accepted.{accepted, multiplexed, types-few, interval-is, scan-is, first-type, scan-in-groups}
 use Rattle.scan.specs.declared.Shape.{Shape}
-use Rattle.scan.specs.Fit.{fitb, countsb, heardb, shapeb, wholeb, limitsb, stopb}
+use Rattle.scan.specs.Fit.{fitb, countsb, trackb, shapeb, wholeb, limitsb, stopb}
 use Rattle.body.specs.Open.{shapeOf, fresh, unfit, opened}
 use Rattle.stream.proofs.Readers.{row-some}
 
@@ -55,11 +55,11 @@ exponent-low b h e = subst (λ (x : Header). x .«block_exponent» < 16) (took b
 
 -- the state before the first byte is fit where its shape is; the all-zero one is not
 pub fresh-fit : (h : Shape) → fitb (fresh h) ≡ shapeb h
-unfolding fitb fresh countsb heardb stopb _or_
+unfolding fitb fresh countsb trackb stopb _or_
 fresh-fit h = rw (leb·zero (h .types))
 
 pub unfit-not : fitb unfit ≡ false
-unfolding unfit fresh fitb countsb heardb stopb _or_ shapeb _and_
+unfolding unfit fresh fitb countsb trackb stopb _or_ shapeb _and_
 unfit-not = refl
 
 -- an accepted header has a fit shape, where the block's numbers are bytes

@@ -7,7 +7,7 @@ ghost use mathlib.Core.Path.{_≡_};
 ghost use Prim.Native.Nat.{_*_, _^_, _<_};
 ghost use Rattle.body.specs.Open as Open;
 
-fn power(e: u32) -> u32
+fn two_to(e: u32) -> u32
     requires { ⌜ e < 16 ⌝ }
     ensures { λ r. ⌜ (r ≡ 2 ^ e) × (r < 65536) ⌝ }
 {
@@ -19,7 +19,7 @@ fn scans_of(n: u8, e: u8) -> u32
     requires { ⌜ e < 16 ⌝ }
     ensures { λ r. ⌜ r ≡ n * 2 ^ e ⌝ }
 {
-    (n as u32) * power(e as u32)
+    (n as u32) * two_to(e as u32)
 }
 
 pub(crate) fn shape_of(h: Header) -> Shape

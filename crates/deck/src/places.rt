@@ -150,7 +150,7 @@ pub struct SegdSkew {
 pub extern "C" fn segd_skew(block: &[u8], sheet: &[u8], scan_type: u32) -> SegdSkew
     ensures { λ r. ⌜ r ≡ flatSkew (skewFault (now (block .entry)) (now (sheet .entry)) «scan_type») (now (block .entry)) «scan_type» ⌝ }
 {
-    let fault = parts::skew_refusal(block, sheet, scan_type);
+    let fault = parts::skew_fault(block, sheet, scan_type);
     match fault {
         Fault::Clear => {
             let t = (scan_type - 1) as u8;

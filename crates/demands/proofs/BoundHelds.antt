@@ -14,7 +14,7 @@ bound-held = record {
   extended-of = λ w κs a g z e. fact-mono (w .𝓤) _ _ (λ p. p);
   external-of = λ w κs a g z e. fact-mono (w .𝓤) _ _ (λ p. p);
   skew-of = λ w κs a g z e. fact-mono (w .𝓤) _ _ (λ p. p);
-  skew-refusal-of = λ w κs a g z e. fact-mono (w .𝓤) _ _ (λ p. p);
+  skew-fault-of = λ w κs a g z e. fact-mono (w .𝓤) _ _ (λ p. p);
   sample-time-of = λ w κs a g z e. fact-mono (w .𝓤) _ _ (λ p. p);
   open-of = λ w κs a g z e. fact-mono (w .𝓤) _ _ (λ p. p);
 }

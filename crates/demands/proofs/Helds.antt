@@ -23,7 +23,7 @@ unique-held = record {
   extended-of = λ w κs a g z z′ e e′. both (w .𝓤) one-part;
   external-of = λ w κs a g z z′ e e′. both (w .𝓤) one-part;
   skew-of = λ w κs a g z z′ e e′. both (w .𝓤) one-part;
-  skew-refusal-of = λ w κs a g z z′ e e′. both (w .𝓤) one-answer;
+  skew-fault-of = λ w κs a g z z′ e e′. both (w .𝓤) one-answer;
   sample-time-of = λ w κs a g z z′ e e′. both (w .𝓤) one-answer;
   open-of = λ w κs a g z z′ e e′. both (w .𝓤) one-answer;
 }

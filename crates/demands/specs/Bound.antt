@@ -36,7 +36,7 @@ use Rattle.layout.proofs.sample_place.Reads as layout-sample-place
 use Rattle.parts.proofs.constants.Reads as parts-constants
 use Rattle.parts.proofs.extended.Reads as parts-extended
 use Rattle.parts.proofs.external.Reads as parts-external
-use Rattle.parts.proofs.skew_refusal.Reads as parts-skew-refusal
+use Rattle.parts.proofs.skew_fault.Reads as parts-skew-fault
 use Rattle.parts.proofs.skew.Reads as parts-skew
 use Rattle.parts.proofs.skew_at.Reads as parts-skew-at
 use Rattle.parts.proofs.sample_time.Reads as parts-sample-time
@@ -119,7 +119,7 @@ pub record Bound : Type 0 where
   pub constants : IsPart parts-constants.Post (λ κ a. constantsPart (lent (first a)))
   pub extended : IsPart parts-extended.Post (λ κ a. extendedPart (lent (first a)))
   pub external : IsPart parts-external.Post (λ κ a. externalPart (lent (first a)))
-  pub skew-refusal : Is parts-skew-refusal.Post (λ κ a. skewFault (first a .now) (second a .now) (third a))
+  pub skew-fault : Is parts-skew-fault.Post (λ κ a. skewFault (first a .now) (second a .now) (third a))
   pub skew : IsPart parts-skew.Post (λ κ a. skewPart (lent (first a)) (lent (second a)) (third a))
   pub skew-at : Is parts-skew-at.Post (λ κ a. skewAnswer (first a .now) (second a .now) (third a) (fourth a))
   pub sample-time : Is parts-sample-time.Post (λ κ a. timeAnswer (first a .now) (second a .now) (third a) (fourth a) (fifth a))

@@ -22,7 +22,7 @@ use Rattle.view.proofs.constants_of as view-constants-of
 use Rattle.view.proofs.extended_of as view-extended-of
 use Rattle.view.proofs.external_of as view-external-of
 use Rattle.view.proofs.skew_of as view-skew-of
-use Rattle.view.proofs.skew_refusal_of as view-skew-refusal-of
+use Rattle.view.proofs.skew_fault_of as view-skew-fault-of
 use Rattle.view.proofs.sample_time_of as view-sample-time-of
 use Rattle.view.proofs.open_of as view-open-of
 use Rattle.demands.specs.Held.{Claimed}
@@ -61,7 +61,7 @@ pub record BoundHeld : Type 2 where
       (λ κs a z. lent z ≡ externalPart (lent (first a .block)))
   pub skew-of : Ensures view-skew-of.ended (λ M. view-skew-of.clauses {M = M})
       (λ κs a z. lent z ≡ skewPart (lent (first a .block)) (lent (second a)) (third a))
-  pub skew-refusal-of : Ensures view-skew-refusal-of.ended (λ M. view-skew-refusal-of.clauses {M = M})
+  pub skew-fault-of : Ensures view-skew-fault-of.ended (λ M. view-skew-fault-of.clauses {M = M})
       (λ κs a z. z ≡ skewFault (first a .block .now) (second a .now) (third a))
   pub sample-time-of : Ensures view-sample-time-of.ended (λ M. view-sample-time-of.clauses {M = M})
       (λ κs a z. z ≡ timeAnswer (first a .block .now) (second a .now) (third a) (fourth a) (fifth a))

@@ -22,7 +22,7 @@ use Rattle.view.proofs.constants_of as view-constants-of
 use Rattle.view.proofs.extended_of as view-extended-of
 use Rattle.view.proofs.external_of as view-external-of
 use Rattle.view.proofs.skew_of as view-skew-of
-use Rattle.view.proofs.skew_refusal_of as view-skew-refusal-of
+use Rattle.view.proofs.skew_fault_of as view-skew-fault-of
 use Rattle.view.proofs.sample_time_of as view-sample-time-of
 use Rattle.view.proofs.open_of as view-open-of
 use Rattle.demands.specs.One.{samePart}
@@ -58,6 +58,6 @@ pub record UniqueHeld : Type 2 where
   pub extended-of : Alike view-extended-of.ended (λ M. view-extended-of.clauses {M = M}) (λ κs. samePart)
   pub external-of : Alike view-external-of.ended (λ M. view-external-of.clauses {M = M}) (λ κs. samePart)
   pub skew-of : Alike view-skew-of.ended (λ M. view-skew-of.clauses {M = M}) (λ κs. samePart)
-  pub skew-refusal-of : OneHeld view-skew-refusal-of.ended (λ M. view-skew-refusal-of.clauses {M = M})
+  pub skew-fault-of : OneHeld view-skew-fault-of.ended (λ M. view-skew-fault-of.clauses {M = M})
   pub sample-time-of : OneHeld view-sample-time-of.ended (λ M. view-sample-time-of.clauses {M = M})
   pub open-of : OneHeld view-open-of.ended (λ M. view-open-of.clauses {M = M})

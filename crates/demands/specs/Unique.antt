@@ -47,7 +47,7 @@ use Rattle.parts.proofs.constants.Reads as parts-constants
 use Rattle.parts.proofs.extended_place.Reads as parts-extended-place
 use Rattle.parts.proofs.extended.Reads as parts-extended
 use Rattle.parts.proofs.external.Reads as parts-external
-use Rattle.parts.proofs.skew_refusal.Reads as parts-skew-refusal
+use Rattle.parts.proofs.skew_fault.Reads as parts-skew-fault
 use Rattle.parts.proofs.skew_place.Reads as parts-skew-place
 use Rattle.parts.proofs.skew.Reads as parts-skew
 use Rattle.parts.proofs.skew_at.Reads as parts-skew-at
@@ -136,7 +136,7 @@ pub record Unique : Type 0 where
   pub extended-place : OneAnswer parts-extended-place.Post
   pub extended : OnePart parts-extended.Post
   pub external : OnePart parts-external.Post
-  pub skew-refusal : OneAnswer parts-skew-refusal.Post
+  pub skew-fault : OneAnswer parts-skew-fault.Post
   pub skew-place : OneAnswer parts-skew-place.Post
   pub skew : OnePart parts-skew.Post
   pub skew-at : OneAnswer parts-skew-at.Post

@@ -116,7 +116,7 @@ fn timed(b: &[u8], sheet: &[u8], scan_type: u32, k: u32, t: u32) {
 
 fn sheet_of(b: &[u8], sheet: &[u8]) {
     length(b"sheet of ", sheet);
-    let f = parts::skew_refusal(b, sheet, 1);
+    let f = parts::skew_fault(b, sheet, 1);
     match f {
         Fault::Clear => text(b"fits\n"),
         Fault::At(r) => refused(r),

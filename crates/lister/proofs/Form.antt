@@ -29,12 +29,11 @@ use Rattle.lister.specs.declared.file.File.{File}
 use Rattle.lister.specs.declared.file.File.the-variants.{Empty, Heading, Large, Refused, Blocks}
 use Rattle.lister.specs.declared.file.Said.{Said}
 use Rattle.lister.specs.declared.file.Said.the-variants.{Nothing, Line}
-use Rattle.lister.specs.Listing.{bodyIn, byHeader, outcomeOf}
+use Rattle.lister.specs.Listing.{bodyIn, byHeader, outcomeOf, nextNumber}
 use Rattle.lister.specs.File.{partOf, itemEnd, headedBy, closedOf, saidOf}
 use Rattle.scan.proofs.Fold.{after-append}
 use Rattle.stream.proofs.Cuts.{portion-state}
 use Rattle.body.proofs.BlockEnds.{end-fit}
-use Rattle.lister.specs.Turn.{nextNumber}
 use Rattle.lister.proofs.Bytes.{Items}
 use Rattle.lister.proofs.Reader.{open-fit, after-fit, after-none, stateAfter, closes}
 use Rattle.lister.proofs.Places.{opened-place}

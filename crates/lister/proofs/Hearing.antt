@@ -22,7 +22,8 @@ use Rattle.lister.specs.declared.file.Said.{Said}
 use Rattle.lister.specs.declared.file.Said.the-variants.{Nothing, Line}
 use Rattle.lister.specs.File.{partOf, bufferAfter, numbersAfter, itemEnd, saidOf}
 use Rattle.agree.specs.Calls.{Bytes}
-use Rattle.lister.specs.Turn.{nextNumber, marked, markedLine, heardOf, heardHeader, heardNumbers, heardLine}
+use Rattle.lister.specs.Listing.{nextNumber}
+use Rattle.lister.specs.Turn.{marked, markedLine, heardOf, heardHeader, heardNumbers, heardLine}
 use Rattle.lister.proofs.Reader.{numbers-length}
 use Rattle.lister.proofs.Bytes.{Items, bytes-append, items-append}
 use Rattle.lister.proofs.Form.{fileAt, countBy, textBy, part-form, end-form}

@@ -11,11 +11,11 @@ use lib.IntN.{ℤ}
 use lib.ListN.{length}
 use Rattle.basis.specs.Choice.{pick}
 use Rattle.framing.proofs.Forward.{forward}
-use Rattle.lister.specs.declared.Tape.{Tape}
+use Rattle.lister.specs.declared.Progress.{Progress}
 use Rattle.lister.specs.declared.Turn.{Turn}
 use Rattle.lister.specs.Turn.{Lister, turnOf, turnHeader, turnNumbers, turnLine, turned, turns}
 
-pub turn-forward : (t : Tape) (bytes : List ℕ) (at : ℕ) (header : List ℕ) (numbers : List ℤ) (line : List ℕ) → at < length bytes
+pub turn-forward : (t : Progress) (bytes : List ℕ) (at : ℕ) (header : List ℕ) (numbers : List ℤ) (line : List ℕ) → at < length bytes
     → (at < (turnOf t bytes at header numbers line) .to) × ((turnOf t bytes at header numbers line) .to ≤ length bytes)
 unfolding pick
 turn-forward t bytes at header numbers line h =
@@ -53,11 +53,11 @@ enough (suc j) (suc k) s bytes at p q =
     enough j k (turned s bytes at) bytes ((turnOf (s .tape) bytes at (s .header) (s .numbers) (s .line)) .to) (nearer s bytes at j p) (nearer s bytes at k q)
 
 -- where the loop over a portion stands: what is left of it leads to the end
-pub record Onward (end : Lister) (bytes header : List ℕ) (numbers : List ℤ) (line : List ℕ) (tape : Tape) (at : ℕ) : Type 0 where
+pub record Onward (end : Lister) (bytes header : List ℕ) (numbers : List ℤ) (line : List ℕ) (tape : Progress) (at : ℕ) : Type 0 where
   pub out : List ℕ
   pub left : turns (length bytes - at) (record { tape = tape; header = header; numbers = numbers; line = line; out = out }) bytes at ≡ end
 
-module _ (end : Lister) (bytes header : List ℕ) (numbers : List ℤ) (line : List ℕ) (tape : Tape) (at : ℕ) (o : Onward end bytes header numbers line tape at) where
+module _ (end : Lister) (bytes header : List ℕ) (numbers : List ℤ) (line : List ℕ) (tape : Progress) (at : ℕ) (o : Onward end bytes header numbers line tape at) where
   abbrev here : Lister
   here = record { tape = tape; header = header; numbers = numbers; line = line; out = o .out }
 

@@ -6,8 +6,7 @@ use mathlib.Core.List.{List, [], _∷_, _++_, map, append-assoc, append-nil}
 use Rattle.framing.specs.Cuts.{Told, byte, close, mark, itemsTold, joined}
 use Rattle.listing.specs.Lines.{lineOf}
 use Rattle.lister.specs.File.{saidOf}
-use Rattle.lister.specs.Listing.{onto, filesOf, linesOf, outcomeOf}
-use Rattle.lister.specs.Turn.{nextNumber}
+use Rattle.lister.specs.Listing.{onto, filesOf, linesOf, outcomeOf, nextNumber}
 use Rattle.lister.proofs.Form.{fileAt, countBy, textBy, said-count, said-text}
 use Rattle.lister.proofs.Bytes.{Items, items-append}
 

@@ -1,6 +1,6 @@
 -- One step of the lister: the tape and the three lent buffers; and the lister over portions, with all that it prints.
 -- Assumes nothing.
-use Prim.Native.Nat.{ℕ, zero, suc, _+_, _%_, _^_, _≤_}
+use Prim.Native.Nat.{ℕ, zero, suc, _≤_}
 use mathlib.Core.List.{List, [], _∷_, _++_}
 use lib.Dec.{leb}
 use lib.IntN.{ℤ}
@@ -20,13 +20,10 @@ use Rattle.lister.specs.declared.file.File.the-variants.{Empty}
 use Rattle.lister.specs.declared.file.Said.{Said}
 use Rattle.lister.specs.declared.file.Said.the-variants.{Nothing, Line}
 use Rattle.lister.specs.declared.Heard.{Heard}
-use Rattle.lister.specs.declared.Tape.{Tape}
+use Rattle.lister.specs.declared.Progress.{Progress}
 use Rattle.lister.specs.declared.Turn.{Turn}
+use Rattle.lister.specs.Listing.{nextNumber}
 use Rattle.lister.specs.File.{partOf, bufferAfter, numbersAfter, itemEnd, saidOf}
-
--- the number of the file after `count` files
-abbrev pub nextNumber : ℕ → ℕ
-nextNumber count = (count + 1) % 2 ^ 64
 
 -- a mark, where something or nothing is said of the file
 abbrev pub marked : Said → ℕ → List ℕ → Heard
@@ -72,30 +69,30 @@ abbrev pub joinedTurn : Step → Heard → Turn
 joinedTurn s h = record { tape = record { frame = s .frame; file = h .file; count = h .count }; to = s .to; length = h .length }
 
 -- one step from a place of a portion; past its end nothing moves
-abbrev pub turnOf : Tape → List ℕ → ℕ → List ℕ → List ℤ → List ℕ → Turn
+abbrev pub turnOf : Progress → List ℕ → ℕ → List ℕ → List ℤ → List ℕ → Turn
 turnOf t bytes at header numbers line =
     pick (leb (length bytes) at)
     (record { tape = t; to = at; length = 0 })
     (joinedTurn (nextOf (t .frame) bytes at)
     (heardOf (t .file) (t .count) ((nextOf (t .frame) bytes at) .met) (part at ((nextOf (t .frame) bytes at) .to) bytes) header numbers line))
 
-abbrev pub turnHeader : Tape → List ℕ → ℕ → List ℕ → List ℕ
+abbrev pub turnHeader : Progress → List ℕ → ℕ → List ℕ → List ℕ
 turnHeader t bytes at header =
     pick (leb (length bytes) at) header
     (heardHeader (t .file) ((nextOf (t .frame) bytes at) .met) (part at ((nextOf (t .frame) bytes at) .to) bytes) header)
 
-abbrev pub turnNumbers : Tape → List ℕ → ℕ → List ℤ → List ℤ
+abbrev pub turnNumbers : Progress → List ℕ → ℕ → List ℤ → List ℤ
 turnNumbers t bytes at numbers =
     pick (leb (length bytes) at) numbers
     (heardNumbers (t .file) ((nextOf (t .frame) bytes at) .met) (part at ((nextOf (t .frame) bytes at) .to) bytes) numbers)
 
-abbrev pub turnLine : Tape → List ℕ → ℕ → List ℕ → List ℕ
+abbrev pub turnLine : Progress → List ℕ → ℕ → List ℕ → List ℕ
 turnLine t bytes at line =
     pick (leb (length bytes) at) line (heardLine (t .file) (t .count) ((nextOf (t .frame) bytes at) .met) line)
 
 -- the lister with its buffers, and all that it has printed: after each step, so many bytes of the line's buffer
 pub record Lister : Type 0 where
-  pub tape : Tape
+  pub tape : Progress
   pub header : List ℕ
   pub numbers : List ℤ
   pub line : List ℕ
@@ -117,7 +114,7 @@ turns zero s bytes at = s
 turns (suc k) s bytes at = turns k (turned s bytes at) bytes ((turnOf (s .tape) bytes at (s .header) (s .numbers) (s .line)) .to)
 
 -- all of a portion, from its first byte
-abbrev pub walked : Tape → List ℕ → List ℕ → List ℤ → List ℕ → Lister
+abbrev pub walked : Progress → List ℕ → List ℕ → List ℤ → List ℕ → Lister
 walked t bytes header numbers line =
     turns (length bytes) (record { tape = t; header = header; numbers = numbers; line = line; out = [] }) bytes 0
 

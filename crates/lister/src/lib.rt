@@ -25,7 +25,8 @@ struct Heard {
     length: usize,
 }
 
-pub struct Tape {
+// How far a reel has been read: the framing, the present file, and how many files have a line.
+pub struct Progress {
     pub frame: Frame,
     pub file: File,
     pub count: u64,
@@ -33,7 +34,7 @@ pub struct Tape {
 
 // The tape after a step, the place in the portion that it came to, and how long a new line is.
 pub struct Turn {
-    pub tape: Tape,
+    pub tape: Progress,
     pub to: usize,
     pub length: usize,
 }
@@ -103,7 +104,7 @@ fn hear(
 // One step over a portion of an image, from place at on. The caller lends room for a header item, for
 // the numbers of a portion's samples, and for a line.
 pub fn advance(
-    t: Tape,
+    t: Progress,
     bytes: &[u8],
     at: usize,
     header: &mut [u8],
@@ -128,7 +129,7 @@ pub fn advance(
     let frame = s.frame;
     let file = h.file;
     Turn {
-        tape: Tape {
+        tape: Progress {
             frame,
             file,
             count: h.count,
@@ -146,7 +147,13 @@ fn print(line: &[u8], n: usize) {
 
 // All of a portion, each line printed as it comes. The numbers' buffer has room for every sample
 // that the portion may complete, so that ROOM cannot arise. The buffers are those of `Listed`.
-fn walk(start: Tape, bytes: &[u8], header: &mut [u8], numbers: &mut [i32], line: &mut [u8]) -> Tape
+fn walk(
+    start: Progress,
+    bytes: &[u8],
+    header: &mut [u8],
+    numbers: &mut [i32],
+    line: &mut [u8],
+) -> Progress
     requires { ⌜ (length (now bytes) ≤ length (now numbers) / 2) × (length (now header) ≡ headerRoom) × (lineRoom ≤ length (now line)) ⌝ }
     ensures { λ r. ⌜ (r ≡ walked start (now (bytes .entry)) (now (header .entry)) (now (numbers .entry)) (now (line .entry)) .tape) × (now (header .exit) ≡ walked start (now (bytes .entry)) (now (header .entry)) (now (numbers .entry)) (now (line .entry)) .header) × (now (numbers .exit) ≡ walked start (now (bytes .entry)) (now (header .entry)) (now (numbers .entry)) (now (line .entry)) .numbers) × (now (line .exit) ≡ walked start (now (bytes .entry)) (now (header .entry)) (now (numbers .entry)) (now (line .entry)) .line) ⌝ }
 {
@@ -186,7 +193,7 @@ pub fn list(fd: i32) {
     let mut header = io::large_buffer();
     let mut numbers = [0i32; 131072];
     let mut line = [0u8; 128];
-    let mut tape = Tape {
+    let mut tape = Progress {
         frame: Frame::Start,
         file: File::Empty,
         count: 0,

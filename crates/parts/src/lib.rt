@@ -95,7 +95,7 @@ fn sheet_holds(block: &[u8], sheet: &[u8]) -> bool
 }
 
 // What refuses the skew bytes of a scan type.
-pub fn skew_refusal(block: &[u8], sheet: &[u8], scan_type: u32) -> Fault
+pub fn skew_fault(block: &[u8], sheet: &[u8], scan_type: u32) -> Fault
     ensures { λ r. ⌜ r ≡ skewFault (now (block .entry)) (now (sheet .entry)) «scan_type» ⌝ }
 {
     let f = header_fault(block);
@@ -137,7 +137,7 @@ pub fn skew_place(b: &[u8], t: u8) -> usize
 pub fn skew<'a>(block: &'a [u8], sheet: &'a [u8], scan_type: u32) -> &'a [u8]
     ensures { λ r. ⌜ slice (r .ptr) (now r) ≡ skewPart (slice (block .entry .ptr) (now (block .entry))) (slice (sheet .entry .ptr) (now (sheet .entry))) «scan_type» ⌝ }
 {
-    let f = skew_refusal(block, sheet, scan_type);
+    let f = skew_fault(block, sheet, scan_type);
     match f {
         Fault::At(_) => part_of(block, 0, 0),
         Fault::Clear => {

@@ -13,7 +13,7 @@ use Rattle.codes.specs.declared.Found.the-variants.{Nothing}
 use Rattle.codes.proofs.Rows.{group-none}
 use Rattle.scan.specs.declared.Shape.{Shape}
 use Rattle.scan.specs.declared.State.{State}
-use Rattle.scan.specs.Fit.{Fit, fitb, countsb, heardb, shapeb, wholeb, limitsb, stopb}
+use Rattle.scan.specs.Fit.{Fit, fitb, countsb, trackb, shapeb, wholeb, limitsb, stopb}
 
 pub record Parts (h : Shape) : Type 0 where
   pub scan : 8 ≤ h .scan
@@ -51,11 +51,11 @@ pub no-row : (h : Shape) → shapeb h ≡ true → rowOf (h .code) ≡ Nothing �
 no-row h e n = let z = group-none (h .code) n in let p = shape-parts h e .group in omega arith
 
 pub fit-of : (s : State) → fitb s ≡ true → Fit s
-unfolding fitb countsb heardb
+unfolding fitb countsb trackb
 fit-of s h =
     let a = and-true _ (shapeb (s .shape)) h in
     let b = and-true _ (stopb (s .stop)) (a .0) in
-    let c = and-true (countsb s) (heardb (s .track) (s .shape .types)) (b .0) in
+    let c = and-true (countsb s) (trackb (s .track) (s .shape .types)) (b .0) in
     let d = and-true _ (leb (s .exponents) 65535) (c .0) in
     let e = and-true _ (leb (s .stopat) (s .place)) (d .0) in
     let f = and-true (leb (s .ends) (s .place)) (leb (s .off) (s .place)) (e .0) in
@@ -78,5 +78,5 @@ fit-of s h =
     }
 
 pub of-fit : (s : State) → Fit s → fitb s ≡ true
-unfolding fitb countsb heardb
+unfolding fitb countsb trackb
 of-fit s f = search (tests, f .stop, f .shape)

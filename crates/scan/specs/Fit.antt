@@ -28,8 +28,8 @@ unfoldable pub stopb : ℕ → Bool
 stopb n = eqb n 0 or (leb 14 n and leb n 18)
 
 -- what the starts of the scans can tell
-unfoldable pub heardb : Track → ℕ → Bool
-heardb k types = leb (k .seen) types && leb (k .itb) 1 && leb (k .twi) 1
+unfoldable pub trackb : Track → ℕ → Bool
+trackb k types = leb (k .seen) types && leb (k .itb) 1 && leb (k .twi) 1
 
 -- no more block ends or off-rule words than bytes, a stop no later than they; four exponents of 4 bits
 unfoldable pub countsb : State → Bool
@@ -37,7 +37,7 @@ countsb s = leb (s .ends) (s .place) && leb (s .off) (s .place) && leb (s .stopa
 
 -- STATE is for all others
 unfoldable pub fitb : State → Bool
-fitb s = countsb s && heardb (s .track) (s .shape .types) && stopb (s .stop) && shapeb (s .shape)
+fitb s = countsb s && trackb (s .track) (s .shape .types) && stopb (s .stop) && shapeb (s .shape)
 
 -- the same as facts, which `fit-of` and `of-fit` show
 pub record Fit (s : State) : Type 0 where

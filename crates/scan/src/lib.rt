@@ -1,7 +1,7 @@
 // The body reader's state: what the header says of a body, what its scans told so far, and where its reading stands.
 ghost use mathlib.Core.Path.{_≡_};
 ghost use Prim.Native.Nat.{_≤_};
-ghost use Rattle.scan.specs.Fit.{wholeb, limitsb, shapeb, stopb, heardb, countsb, fitb};
+ghost use Rattle.scan.specs.Fit.{wholeb, limitsb, shapeb, stopb, trackb, countsb, fitb};
 use words::Value;
 
 // What the header says of the body.
@@ -111,7 +111,7 @@ fn stop_fits(stop: u32) -> bool
 }
 
 fn track_fits(k: Track, types: u32) -> bool
-    ensures { λ r. ⌜ r ≡ heardb k types ⌝ }
+    ensures { λ r. ⌜ r ≡ trackb k types ⌝ }
 {
     (k.seen <= types) & (k.itb <= 1) & (k.twi <= 1)
 }

@@ -148,7 +148,7 @@ pub fn channels(b: &[u8], t: u8, s: u8) -> u16
     two_pairs(d, 9)
 }
 
-fn power(e: u8) -> u16
+fn two_to(e: u8) -> u16
     requires { ⌜ e < 16 ⌝ }
     ensures { λ r. ⌜ r ≡ 2 ^ e ⌝ }
 {
@@ -160,7 +160,7 @@ pub fn subscans(b: &[u8], t: u8, s: u8) -> u16
     ensures { λ r. ⌜ r ≡ subscansOf (now (b .entry)) t s ⌝ }
 {
     let d = descriptor_at(b, t, s);
-    power(upper_at(d, 12))
+    two_to(upper_at(d, 12))
 }
 
 fn set_samples(b: &[u8], t: u8, s: u8) -> u32

@@ -95,10 +95,10 @@ pub fn skew_of<'a>(v: Carried<'a>, sheet: &'a [u8], scan_type: u32) -> &'a [u8]
 }
 
 // What refuses them.
-pub fn skew_refusal_of<'a, 'b>(v: Carried<'a>, sheet: &'b [u8], scan_type: u32) -> Fault
+pub fn skew_fault_of<'a, 'b>(v: Carried<'a>, sheet: &'b [u8], scan_type: u32) -> Fault
     ensures { λ r. ⌜ r ≡ skewFault (now (v .entry .block)) (now (sheet .entry)) «scan_type» ⌝ }
 {
-    parts::skew_refusal(v.block, sheet, scan_type)
+    parts::skew_fault(v.block, sheet, scan_type)
 }
 
 // The time of sample k in a scan with timing word t.

@@ -10,10 +10,10 @@ use Rattle.parts.proofs.skew.Statement.{statement}
 use Rattle.parts.proofs.skew.Tie as tie
 
 facts : (c : tie.After-enum-told2) → Asked (c .before .before .before .before .before .args .block .now) (c .before .before .before .before .before .args .sheet .now) (c .before .before .before .before .before .args .scan-type)
-facts c = skew-asked _ _ _ (sym (c .before .before .skew-refusal .ensures) ∙ c .enum-told2 .given .1)
+facts c = skew-asked _ _ _ (sym (c .before .before .skew-fault .ensures) ∙ c .enum-told2 .given .1)
 
-skew-refusal-requires : tie.Need-skew-refusal-requires
-skew-refusal-requires c κs = search needs
+skew-fault-requires : tie.Need-skew-fault-requires
+skew-fault-requires c κs = search needs
 
 enum-told : tie.Need-enum-told
 enum-told c = search needs
@@ -44,17 +44,17 @@ part-of-requires-2 c κs = rw (ap (λ (s : Slice). s .bytes) (c .before .before 
 
 returns : tie.Need-returns
 unfolding skewPart
-returns c = rw (← c .before .before .before .skew-refusal .ensures, c .before .enum-told .given .1) (c .part-of .ensures)
+returns c = rw (← c .before .before .before .skew-fault .ensures, c .before .enum-told .given .1) (c .part-of .ensures)
 
 returns-2 : tie.Need-returns-2
 unfolding skewPart skewOf
-returns-2 c = rw (← c .before .before .before .before .before .before .skew-refusal .ensures, c .before .before .before .before .enum-told2 .given .1, ← c .before .before .before .lent .ensures, ← c .before .before .skew-place .ensures .0, ← c .before .samples .ensures .0) (c .part-of2 .ensures)
+returns-2 c = rw (← c .before .before .before .before .before .before .skew-fault .ensures, c .before .before .before .before .enum-told2 .given .1, ← c .before .before .before .lent .ensures, ← c .before .before .skew-place .ensures .0, ← c .before .samples .ensures .0) (c .part-of2 .ensures)
 
 pub skew-spec : {M : Type 1} → statement M
 skew-spec =
     tie.close
     (tie.spec
-    skew-refusal-requires
+    skew-fault-requires
     enum-told
     part-of-requires
     enum-told-2

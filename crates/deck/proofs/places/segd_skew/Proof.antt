@@ -8,17 +8,17 @@ use borrow.Author.Needs.{needs}
 use Rattle.deck.proofs.places.segd_skew.Statement.{statement}
 use Rattle.deck.proofs.places.segd_skew.Tie as tie
 
-skew-refusal-requires : tie.Need-skew-refusal-requires
-skew-refusal-requires c κs = search needs
+skew-fault-requires : tie.Need-skew-fault-requires
+skew-fault-requires c κs = search needs
 
 enum-told : tie.Need-enum-told
 enum-told c = search needs
 
 sub-t : tie.Need-sub-t
-sub-t c = omega (arith, skew-asked _ _ _ (sym (c .before .before .skew-refusal .ensures) ∙ c .enum-told .given .1) .least)
+sub-t c = omega (arith, skew-asked _ _ _ (sym (c .before .before .skew-fault .ensures) ∙ c .enum-told .given .1) .least)
 
 cast-t : tie.Need-cast-t
-cast-t c = omega (arith, skew-asked _ _ _ (sym (c .before .before .skew-refusal .ensures) ∙ c .enum-told .given .1) .small)
+cast-t c = omega (arith, skew-asked _ _ _ (sym (c .before .before .skew-fault .ensures) ∙ c .enum-told .given .1) .small)
 
 pair-at-requires : tie.Need-pair-at-requires
 pair-at-requires c κs = search needs
@@ -46,16 +46,16 @@ tell-requires c κs = search needs
 
 returns : tie.Need-returns
 unfolding samplesOf
-returns c = rw (← c .before .before .before .before .before .before .before .before .skew-refusal .ensures, c .before .before .before .before .before .before .enum-told .given .1, c .before .before .before .clear .ensures, c .before .flag-of .ensures, c .before .before .pair-at2 .ensures .0, c .skew-place .ensures .0, c .before .before .before .before .samples-before .ensures .0, c .before .before .before .before .before .pair-at .ensures .0)
+returns c = rw (← c .before .before .before .before .before .before .before .before .skew-fault .ensures, c .before .before .before .before .before .before .enum-told .given .1, c .before .before .before .clear .ensures, c .before .flag-of .ensures, c .before .before .pair-at2 .ensures .0, c .skew-place .ensures .0, c .before .before .before .before .samples-before .ensures .0, c .before .before .before .before .before .pair-at .ensures .0)
 
 returns-2 : tie.Need-returns-2
-returns-2 c = rw (← c .before .before .before .before .skew-refusal .ensures, c .before .before .fault .given .1, c .tell .ensures)
+returns-2 c = rw (← c .before .before .before .before .skew-fault .ensures, c .before .before .fault .given .1, c .tell .ensures)
 
 pub segd-skew-spec : {M : Type 1} → statement M
 segd-skew-spec =
     tie.close
     (tie.spec
-    skew-refusal-requires
+    skew-fault-requires
     enum-told
     sub-t
     cast-t

@@ -1,10 +1,10 @@
--- `parts::skew_refusal` meets its contract.
+-- `parts::skew_fault` meets its contract.
 -- Assumes nothing.
 use borrow.Author.Needs.{needs}
 use Rattle.basis.specs.Choice.{pick}
 use Rattle.parts.specs.Skews.{skewFault}
-use Rattle.parts.proofs.skew_refusal.Statement.{statement}
-use Rattle.parts.proofs.skew_refusal.Tie as tie
+use Rattle.parts.proofs.skew_fault.Statement.{statement}
+use Rattle.parts.proofs.skew_fault.Tie as tie
 
 header-fault-requires : tie.Need-header-fault-requires
 header-fault-requires c κs = search needs
@@ -37,8 +37,8 @@ returns-4 : tie.Need-returns-4
 unfolding skewFault pick
 returns-4 c = rw (← c .before .before .before .before .before .before .header-fault .ensures, c .before .before .before .before .enum-told .given .1, ← c .before .before .before .is-scan-type .ensures, c .before .before .if1 .left, ← c .before .sheet-holds .ensures, c .if2 .left)
 
-pub skew-refusal-spec : {M : Type 1} → statement M
-skew-refusal-spec =
+pub skew-fault-spec : {M : Type 1} → statement M
+skew-fault-spec =
     tie.close
     (tie.spec
     header-fault-requires
