@@ -34,7 +34,7 @@ use Rattle.agree.proofs.Plans.{scan}
 use Rattle.agree.proofs.Form.{headOf}
 use Rattle.agree.proofs.Whole.{stopIn, AgreesAt, agree-pieces}
 use Rattle.agree.proofs.Bytes.{small}
-use Rattle.agree.proofs.Public.{room-test, portion-answer, room-answer, end-answer, runOf, read-fits, read-pieces, read-append}
+use Rattle.agree.proofs.Public.{portion-answer, room-answer, end-answer, runOf, read-fits, read-pieces, read-append}
 use Rattle.agree.proofs.Link.{planOf, planned, scan-same, shape-same, head-fits}
 
 -- two numbers for each sample
@@ -114,12 +114,12 @@ module _ (b : List ℕ) (bytes : Bytes b) (clear : headerFault b ≡ Clear) wher
     portion-at bs room l = go (ltb room (2 * length bs)) refl
       where
         go : (t : Bool) → ltb room (2 * length bs) ≡ t → K.portion now bs room .answer ≡ answerTo (shapeOf b) cs (put bs room)
-        go true e = rw (e, ← (stops-at cs h)) (room-answer now (fits cs) bs room (room-test room (length bs) ∙ e))
+        go true e = rw (e, ← (stops-at cs h)) (room-answer now (fits cs) bs room e)
         go false e =
             let n = doneOf (shapeOf b) (bodyOf (cs ++ (put bs room ∷ []))) - doneOf (shapeOf b) (bodyOf cs) in
             rw e
             (by-stops n (stops-at cs h) (stop-more (put bs room) (l, tt))
-            (portion-answer now (fits cs) bs room n (room-test room (length bs) ∙ e)
+            (portion-answer now (fits cs) bs room n e
             (omega (arith, more (put bs room) (l, tt), length-at cs h, length-append (readingOf b cs .written) (K.written now bs room)))))
 
     end-at : N.blockEnd now .answer ≡ answerTo (shapeOf b) cs end

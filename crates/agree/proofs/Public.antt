@@ -8,7 +8,7 @@ use native.Mathlib.Omega.{arith}
 use lib.Dec.{eqb, ltb}
 use lib.IntN.{ℤ}
 use lib.ListN.{length}
-use borrow.Author.Tests.{ltb-true, ltb-false, lt-ltb, le-ltb}
+use borrow.Author.Tests.{ltb-false}
 use Rattle.basis.specs.Choice.{pick}
 use Rattle.refusals.specs.declared.Refusal.the-variants.{Room, Block}
 use Rattle.refusals.specs.declared.Fault.{Fault}
@@ -30,24 +30,16 @@ use Rattle.agree.specs.Calls.{Call, put, end, Reading, readOn, taken}
 use Rattle.agree.specs.Answers.{answerFrom, roomAnswer}
 use Rattle.agree.proofs.Whole.{stepOf, emitOf, endOf, dueIn, ended-due, ended-wrong, stopped-end, stopIn, feed-after}
 
--- twice its length
-pub room-test : (room n : ℕ) → ltb (room / 2) n ≡ ltb room (2 * n)
-room-test room n = go (ltb room (2 * n)) refl
-  where
-    go : (t : Bool) → ltb room (2 * n) ≡ t → ltb (room / 2) n ≡ t
-    go true e = lt-ltb (room / 2) n (omega (arith, ltb-true room (2 * n) e))
-    go false e = le-ltb (room / 2) n (omega (arith, ltb-false room (2 * n) e))
-
 -- ---- what each call comes to
 portion-taken : (s : State) (bs : List ℕ) (room : ℕ) → fitb s ≡ true → K.portion s bs room ≡ K.taken s bs room
 unfolding K.portion pick
 portion-taken s bs room e = rw e
 
-taken-on : (s : State) (bs : List ℕ) (room : ℕ) → eqb (s .stop) 0 ≡ true → ltb (room / 2) (length bs) ≡ false → K.taken s bs room ≡ K.fed s bs
+taken-on : (s : State) (bs : List ℕ) (room : ℕ) → eqb (s .stop) 0 ≡ true → ltb room (2 * length bs) ≡ false → K.taken s bs room ≡ K.fed s bs
 unfolding K.taken pick
 taken-on s bs room z e = rw (z, e)
 
-taken-none : (s : State) (bs : List ℕ) (room : ℕ) → eqb (s .stop) 0 ≡ true → ltb (room / 2) (length bs) ≡ true → K.taken s bs room ≡ K.unchanged s Room
+taken-none : (s : State) (bs : List ℕ) (room : ℕ) → eqb (s .stop) 0 ≡ true → ltb room (2 * length bs) ≡ true → K.taken s bs room ≡ K.unchanged s Room
 unfolding K.taken pick
 taken-none s bs room z e = rw (z, e)
 
@@ -61,7 +53,7 @@ end-taken s e = rw e
 
 -- of a fit state
 module _ (s : State) (f : fitb s ≡ true) where
-  refused-state : (bs : List ℕ) (room : ℕ) → ltb (room / 2) (length bs) ≡ true → K.portion s bs room .state ≡ s
+  refused-state : (bs : List ℕ) (room : ℕ) → ltb room (2 * length bs) ≡ true → K.portion s bs room .state ≡ s
   unfolding K.unchanged
   refused-state bs room e = ap (λ (g : Gave). g .state) (portion-taken s bs room f) ∙ go (eqb (s .stop) 0) refl
     where
@@ -69,7 +61,7 @@ module _ (s : State) (f : fitb s ≡ true) where
       go true z = ap (λ (g : Gave). g .state) (taken-none s bs room z e)
       go false z = ap (λ (g : Gave). g .state) (taken-off s bs room z)
 
-  written-none : (bs : List ℕ) (room : ℕ) → ltb (room / 2) (length bs) ≡ true → K.written s bs room ≡ []
+  written-none : (bs : List ℕ) (room : ℕ) → ltb room (2 * length bs) ≡ true → K.written s bs room ≡ []
   unfolding K.written K.kept pick
   written-none bs room e = rw (f, e) (go (eqb (s .stop) 0))
     where
@@ -101,7 +93,7 @@ module _ (s : State) (f : fitb s ≡ true) where
   unfolding pick
   going z = rw z
 
-  pub portion-answer : (bs : List ℕ) (room m : ℕ) → ltb (room / 2) (length bs) ≡ false → 2 * m ≡ length (K.written s bs room)
+  pub portion-answer : (bs : List ℕ) (room m : ℕ) → ltb room (2 * length bs) ≡ false → 2 * m ≡ length (K.written s bs room)
       → K.portion s bs room .answer ≡ answerFrom (stopIn s) (stopIn (K.portion s bs room .state)) m
   unfolding K.fed
   portion-answer bs room m e n = go (eqb (s .stop) 0) refl
@@ -109,13 +101,13 @@ module _ (s : State) (f : fitb s ≡ true) where
       go : (t : Bool) → eqb (s .stop) 0 ≡ t → K.portion s bs room .answer ≡ answerFrom (stopIn s) (stopIn (K.portion s bs room .state)) m
       go true z =
           let q : K.portion s bs room ≡ K.fed s bs = portion-taken s bs room f ∙ taken-on s bs room z e in
-          let l : length (K.written s bs room) ≡ length (S.wrote s bs) = ap length (portion-wrote s bs room (ltb-false (room / 2) (length bs) e) f) in
+          let l : length (K.written s bs room) ≡ length (S.wrote s bs) = ap length (portion-wrote s bs room (ltb-false room (2 * length bs) e) f) in
           rw (q, going z) (on-answer (S.after s bs) (length (S.wrote s bs)) m (omega arith))
       go false z =
           let q : K.portion s bs room ≡ record { state = s; answer = K.answered s 0 } = portion-taken s bs room f ∙ taken-off s bs room z in
           rw q (off-answer z (stopIn s) m)
 
-  pub room-answer : (bs : List ℕ) (room : ℕ) → ltb (room / 2) (length bs) ≡ true → K.portion s bs room .answer ≡ roomAnswer (stopIn s)
+  pub room-answer : (bs : List ℕ) (room : ℕ) → ltb room (2 * length bs) ≡ true → K.portion s bs room .answer ≡ roomAnswer (stopIn s)
   unfolding K.unchanged
   room-answer bs room e = go (eqb (s .stop) 0) refl
     where
@@ -156,18 +148,18 @@ pub read-pieces : (c : Reading) → fitb (c .state) ≡ true → (cs : List Call
 unfolding pick
 read-pieces c f [] = refl
 read-pieces c f (put bs room ∷ cs) =
-    go (ltb (room / 2) (length bs)) refl (read-pieces c f cs)
+    go (ltb room (2 * length bs)) refl (read-pieces c f cs)
     (read-pieces (record { state = S.after (c .state) bs; written = c .written ++ S.wrote (c .state) bs }) (of-fit (S.after (c .state) bs) (fit-after (c .state) bs (fit-of (c .state) f))) cs)
   where
-    go : (t : Bool) → ltb (room / 2) (length bs) ≡ t
+    go : (t : Bool) → ltb room (2 * length bs) ≡ t
         → runOf (readOn c cs) ≡ pieces stepOf emitOf endOf (runOf c) (taken cs)
         → runOf (readOn (record { state = S.after (c .state) bs; written = c .written ++ S.wrote (c .state) bs }) cs)
         ≡ pieces stepOf emitOf endOf (record { st = S.after (c .state) bs; out = c .written ++ S.wrote (c .state) bs }) (taken cs)
         → runOf (readOn (record { state = K.portion (c .state) bs room .state; written = c .written ++ K.written (c .state) bs room }) cs)
         ≡ pieces stepOf emitOf endOf (runOf c) (pick (ltb room (2 * length bs)) (taken cs) (portion bs ∷ taken cs))
-    go true e x y = rw (refused-state (c .state) f bs room e, written-none (c .state) f bs room e, append-nil (c .written), sym (room-test room (length bs)), e) x
+    go true e x y = rw (refused-state (c .state) f bs room e, written-none (c .state) f bs room e, append-nil (c .written), e) x
     go false e x y =
-        rw (portion-state (c .state) bs room (ltb-false (room / 2) (length bs) e) f, portion-wrote (c .state) bs room (ltb-false (room / 2) (length bs) e) f, sym (room-test room (length bs)), e)
+        rw (portion-state (c .state) bs room (ltb-false room (2 * length bs) e) f, portion-wrote (c .state) bs room (ltb-false room (2 * length bs) e) f, e)
         (y ∙ ap (λ (x : Run State ℤ). pieces stepOf emitOf endOf x (taken cs)) (sym (feed-after (runOf c) bs)))
 read-pieces c f (end ∷ cs) =
     ap (λ (s : State). runOf (readOn (record { state = s; written = c .written }) cs)) (end-state (c .state) f)

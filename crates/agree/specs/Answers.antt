@@ -1,9 +1,8 @@
 -- What the rules of the body that the calls spell make of each answer.
 -- Assumes nothing.
-use Prim.Native.Nat.{ℕ, _-_, _*_}
+use Prim.Native.Nat.{ℕ, _-_}
 use mathlib.Core.List.{List, [], _∷_, _++_}
 use mathlib.Core.Option.{Option, none, some}
-use lib.Dec.{ltb}
 use lib.ListN.{length}
 use Rattle.basis.specs.Choice.{pick}
 use Rattle.refusals.specs.declared.Refusal.the-variants.{Room}
@@ -19,6 +18,7 @@ use Rattle.body.specs.declared.Window.{Window}
 use Rattle.body.specs.declared.Window.the-variants as W
 use Rattle.body.specs.declared.Closed.the-variants as C
 use Rattle.body.specs.declared.Closing as B
+use Rattle.stream.specs.Calls.{lacksRoom}
 use Rattle.body.specs.Ends as N
 use Rattle.agree.specs.Calls.{Call, put, end, bodyOf}
 
@@ -40,7 +40,7 @@ takenAnswer sh cs c =
 
 -- the answer to a call c after the calls cs
 abbrev pub answerTo : Shape → List Call → Call → Answer
-answerTo sh cs (put bs room) = pick (ltb room (2 * length bs)) (roomAnswer (stopOf sh (bodyOf cs))) (takenAnswer sh cs (put bs room))
+answerTo sh cs (put bs room) = pick (lacksRoom room (length bs)) (roomAnswer (stopOf sh (bodyOf cs))) (takenAnswer sh cs (put bs room))
 answerTo sh cs end = takenAnswer sh cs end
 
 -- ITB and the window's T, as the reader gives them

@@ -1,8 +1,7 @@
 -- Calls on the streamed reader: what it does with them, and the body that they spell.
 -- Assumes nothing.
-use Prim.Native.Nat.{ℕ, _*_, _<_}
+use Prim.Native.Nat.{ℕ, _<_}
 use mathlib.Core.List.{List, [], _∷_, _++_}
-use lib.Dec.{ltb}
 use lib.IntN.{ℤ}
 use lib.ListN.{length}
 use Rattle.basis.specs.Choice.{pick}
@@ -49,7 +48,7 @@ readingOf b = readOn (record { state = O.opened b .state; written = [] })
 -- the pieces that are taken: "a portion needs twice its length in output numbers", and one without room is no part of the body
 abbrev pub taken : List Call → List Piece
 taken [] = []
-taken (put bs room ∷ cs) = pick (ltb room (2 * length bs)) (taken cs) (portion bs ∷ taken cs)
+taken (put bs room ∷ cs) = pick (K.lacksRoom room (length bs)) (taken cs) (portion bs ∷ taken cs)
 taken (end ∷ cs) = blockEnd ∷ taken cs
 
 -- the body that the calls spell

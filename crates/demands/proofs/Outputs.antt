@@ -30,7 +30,7 @@ nothing : (s : State) (bs : List ℕ) (room : ℕ) → fitb s ≡ false → writ
 unfolding written pick
 nothing s bs room f = rw f
 
-pub two-are-one : (s : State) (a b : List ℕ) (m n k : ℕ) → length a ≤ m / 2 → length b ≤ n / 2 → length (a ++ b) ≤ k / 2 → TwoAreOne s a b m n k
+pub two-are-one : (s : State) (a b : List ℕ) (m n k : ℕ) → 2 * length a ≤ m → 2 * length b ≤ n → 2 * length (a ++ b) ≤ k → TwoAreOne s a b m n k
 two-are-one s a b m n k ha hb h = go (fitb s) refl
   where
     go : (t : Bool) → fitb s ≡ t → TwoAreOne s a b m n k
@@ -56,9 +56,9 @@ said s k = pick-both (λ (a : Answer). samplesIn a ≡ k / 2) (eqb (s .stop) 0) 
 
 counts : (s : State) (bs : List ℕ) (room : ℕ) → length (written s bs room) ≡ 2 * samplesIn (portion s bs room .answer)
 unfolding portion taken fed unchanged written kept pick
-counts s bs room = go (fitb s) (eqb (s .stop) 0) (ltb (room / 2) (length bs)) refl refl refl
+counts s bs room = go (fitb s) (eqb (s .stop) 0) (ltb room (2 * length bs)) refl refl refl
   where
-    go : (f z l : Bool) → fitb s ≡ f → eqb (s .stop) 0 ≡ z → ltb (room / 2) (length bs) ≡ l → length (written s bs room) ≡ 2 * samplesIn (portion s bs room .answer)
+    go : (f z l : Bool) → fitb s ≡ f → eqb (s .stop) 0 ≡ z → ltb room (2 * length bs) ≡ l → length (written s bs room) ≡ 2 * samplesIn (portion s bs room .answer)
     go false z l f e h = rw f
     go true false l f e h = rw (f, e, said s 0)
     go true true true f e h = rw (f, e, h)

@@ -39,8 +39,8 @@ use Rattle.parts.specs.Times.{timeBy, timeAnswer}
 use Rattle.demands.specs.Figures.{All, figures}
 
 -- the place in its scan of sample k's word, by the code's row
-abbrev wordAt : List ℕ → ℕ → ℕ
-wordAt b = wordPlace (perOf (codeOf b)) (leadOf (codeOf b)) (wordBytesOf (codeOf b))
+abbrev wordBegins : List ℕ → ℕ → ℕ
+wordBegins b = wordPlace (perOf (codeOf b)) (leadOf (codeOf b)) (wordBytesOf (codeOf b))
 
 -- a word joined of S, c, Q and the bits not used, as a row has them; and that a word has them
 abbrev ofFields : Row → ℕ → ℕ → ℕ → ℕ → ℕ
@@ -52,9 +52,9 @@ Has r word s e q last = (signIn r word ≡ s) × (exponentIn r 0 word ≡ e) × 
 -- "B = 8 + S/S x bytes per sample": the word of sample k lies at its own bytes of the scan, one after another and to the scan's end;
 -- and what is read of a scan type in the header block lies in the block
 pub record OwnBytes (b : List ℕ) : Type 0 where
-  pub apart : (j k : ℕ) → j < k → wordAt b j + wordBytesOf (codeOf b) ≤ wordAt b k
-  pub inside : (t : ℕ) → t < scanTypes b → (k : ℕ) → k < samplesOf b t → wordAt b k + wordBytesOf (codeOf b) ≤ bytesPerScan b
-  pub fill : (t : ℕ) → t < scanTypes b → 0 < samplesOf b t → wordAt b (samplesOf b t - 1) + wordBytesOf (codeOf b) ≡ bytesPerScan b
+  pub apart : (j k : ℕ) → j < k → wordBegins b j + wordBytesOf (codeOf b) ≤ wordBegins b k
+  pub inside : (t : ℕ) → t < scanTypes b → (k : ℕ) → k < samplesOf b t → wordBegins b k + wordBytesOf (codeOf b) ≤ bytesPerScan b
+  pub fill : (t : ℕ) → t < scanTypes b → 0 < samplesOf b t → wordBegins b (samplesOf b t - 1) + wordBytesOf (codeOf b) ≡ bytesPerScan b
   pub descriptors : (t s : ℕ) → t < scanTypes b → s < channelSets b → placeOf b t s + 32 ≤ length b
   -- its subscans are 2^(S/C), and S/C is at most 9
   pub subscans : (t s : ℕ) → t < scanTypes b → s < channelSets b → subscansOf b t s ≤ 512

@@ -1,6 +1,6 @@
 -- The state of a file in closed form: by the items that it has, and the bytes of the item that is open.
 -- Assumes nothing.
-use Prim.Native.Nat.{ℕ, _+_, _/_, _≤_, _<_}
+use Prim.Native.Nat.{ℕ, _+_, _*_, _/_, _≤_, _<_}
 use mathlib.Core.Path.{_≡_, refl, sym, ap, _∙_}
 use mathlib.Core.Bool.{Bool, true, false}
 use mathlib.Core.List.{List, [], _∷_, _++_}
@@ -79,7 +79,8 @@ part-form header numbers (h ∷ blocks) have y ys ok room = go (leb (length h) (
     go true (H.Accepted x) e =
         let s = stateAfter (opened h .state) blocks in
         let f = after-fit s have (body-fit (opened h .state) blocks (open-fit h x (ok .0) e)) in
-        ap (Blocks (x .file) (x .code)) (portion-state (after s have) (y ∷ ys) (length numbers) room f ∙ sym (after-append s have (y ∷ ys)))
+        let r : 2 * length (y ∷ ys) ≤ length numbers = omega (arith, room) in
+        ap (Blocks (x .file) (x .code)) (portion-state (after s have) (y ∷ ys) (length numbers) r f ∙ sym (after-append s have (y ∷ ys)))
     go false d e = refl
 
 -- the end of an item; the buffer has a header item that fits

@@ -1,6 +1,6 @@
 -- What the body's reader gives the lister: every state reached is fit, a portion's numbers have room, and the closing answer is the rules'.
 -- Assumes nothing.
-use Prim.Native.Nat.{ℕ, _*_, _/_, _≤_}
+use Prim.Native.Nat.{ℕ, _*_, _≤_}
 use mathlib.Core.Path.{_≡_, refl, sym, ap, _∙_}
 use mathlib.Core.Bool.{true}
 use mathlib.Core.List.{List, [], _∷_, _++_, append-nil}
@@ -57,7 +57,7 @@ unfolding written kept
 written-few s bs room =
     pick-cases P (fitb s)
     (λ f. pick-cases P (eqb (s .stop) 0)
-    (λ e. pick-cases P (ltb (room / 2) (length bs)) (λ l. omega arith) (λ l. let h : length bs ≤ room / 2 = ltb-false (room / 2) (length bs) l in omega (arith, wrote-length s bs)))
+    (λ e. pick-cases P (ltb room (2 * length bs)) (λ l. omega arith) (λ l. let h : 2 * length bs ≤ room = ltb-false room (2 * length bs) l in omega (arith, wrote-length s bs)))
     (λ e. omega arith))
     (λ f. omega arith)
   where
@@ -92,7 +92,7 @@ calls-spell (x ∷ xs) =
 calls-reach : (s : State) (w : List ℤ) (xs : List (List ℕ)) → fitb s ≡ true → readOn (record { state = s; written = w }) (callsOf xs) .state ≡ stateAfter s xs
 calls-reach s w [] f = refl
 calls-reach s w (x ∷ xs) f =
-    let room : length x ≤ 2 * length x / 2 = omega arith in
+    let room : 2 * length x ≤ 2 * length x = omega arith in
     calls-reach (blockEnd (portion s x (2 * length x) .state) .state) (w ++ written s x (2 * length x)) xs (end-fit _ (portion-fit s x (2 * length x) f))
     ∙ ap (λ (t : State). stateAfter (blockEnd t .state) xs) (portion-state s x (2 * length x) room f)
 

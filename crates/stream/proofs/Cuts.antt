@@ -1,10 +1,11 @@
 -- Cutting the bytes into portions changes nothing, and every state that a portion gives is fit.
 -- Assumes nothing.
-use Prim.Native.Nat.{ℕ, _/_, _≤_}
+use Prim.Native.Nat.{ℕ, _*_, _/_, _≤_, _<_}
 use mathlib.Core.Path.{_≡_, sym}
-use mathlib.Core.Bool.{true}
+use mathlib.Core.Bool.{true, false}
 use mathlib.Core.List.{List, _++_}
-use borrow.Author.Tests.{le-ltb}
+use native.Mathlib.Omega.{arith}
+use borrow.Author.Tests.{le-ltb, lt-ltb}
 use lib.IntN.{ℤ}
 use lib.ListN.{length}
 use lib.Dec.{eqb}
@@ -18,19 +19,26 @@ use Rattle.scan.proofs.Shapes.{fit-of, of-fit}
 use Rattle.scan.proofs.Keep.{fit-after}
 use Rattle.scan.proofs.Fold.{after-append, wrote-append, after-stopped, wrote-stopped}
 use Rattle.stream.specs.declared.Gave.{Gave}
-use Rattle.stream.specs.Calls.{portion, taken, kept, fed, written, unchanged}
+use Rattle.stream.specs.Calls.{portion, taken, kept, fed, written, unchanged, lacksRoom}
+
+-- the code halves the room, so that nothing can wrap
+pub room-short : (room n : ℕ) → room / 2 < n → lacksRoom room n ≡ true
+room-short room n h = lt-ltb room (2 * n) (omega (arith, h))
+
+pub room-enough : (room n : ℕ) → n ≤ room / 2 → lacksRoom room n ≡ false
+room-enough room n h = le-ltb room (2 * n) (omega (arith, h))
 
 -- a portion with room enough, from a fit state, is the fold over its bytes
-module _ (s : State) (bs : List ℕ) (room : ℕ) (r : length bs ≤ room / 2) where
+module _ (s : State) (bs : List ℕ) (room : ℕ) (r : 2 * length bs ≤ room) where
   taken-state : taken s bs room .state ≡ after s bs
   unfolding taken fed pick
   taken-state =
-      pick-cases (λ (g : Gave). g .state ≡ after s bs) (eqb (s .stop) 0) (λ e. rw (le-ltb (room / 2) (length bs) r)) (λ e. sym (after-stopped s bs e))
+      pick-cases (λ (g : Gave). g .state ≡ after s bs) (eqb (s .stop) 0) (λ e. rw (le-ltb room (2 * length bs) r)) (λ e. sym (after-stopped s bs e))
 
   kept-wrote : kept s bs room ≡ wrote s bs
   unfolding kept pick
   kept-wrote =
-      pick-cases (λ (l : List ℤ). l ≡ wrote s bs) (eqb (s .stop) 0) (λ e. rw (le-ltb (room / 2) (length bs) r)) (λ e. sym (wrote-stopped s bs e))
+      pick-cases (λ (l : List ℤ). l ≡ wrote s bs) (eqb (s .stop) 0) (λ e. rw (le-ltb room (2 * length bs) r)) (λ e. sym (wrote-stopped s bs e))
 
   pub portion-state : fitb s ≡ true → portion s bs room .state ≡ after s bs
   unfolding portion pick
@@ -41,7 +49,7 @@ module _ (s : State) (bs : List ℕ) (room : ℕ) (r : length bs ≤ room / 2) w
   portion-wrote f = rw f kept-wrote
 
 -- two portions are one
-module _ (s : State) (a b : List ℕ) (f : fitb s ≡ true) (ra rb r : ℕ) (ha : length a ≤ ra / 2) (hb : length b ≤ rb / 2) (h : length (a ++ b) ≤ r / 2) where
+module _ (s : State) (a b : List ℕ) (f : fitb s ≡ true) (ra rb r : ℕ) (ha : 2 * length a ≤ ra) (hb : 2 * length b ≤ rb) (h : 2 * length (a ++ b) ≤ r) where
   fit-first : fitb (portion s a ra .state) ≡ true
   fit-first = rw (portion-state s a ra ha f) (of-fit (after s a) (fit-after s a (fit-of s f)))
 

@@ -1,6 +1,7 @@
 -- "A portion: 23, an earlier stop, 13; then per byte": what a portion answers, the state after it, and what it writes.
 -- Assumes nothing.
-use Prim.Native.Nat.{ℕ, _/_}
+use Prim.Native.Nat.{ℕ, _*_, _/_}
+use mathlib.Core.Bool.{Bool}
 use mathlib.Core.List.{List, []}
 use lib.Dec.{eqb, ltb}
 use lib.IntN.{ℤ}
@@ -35,11 +36,15 @@ unchanged s r = record { state = s; answer = Refused r }
 unfoldable pub fed : State → List ℕ → Gave
 fed s bs = record { state = after s bs; answer = answered (after s bs) (length (wrote s bs)) }
 
+-- "A portion needs twice its length in output numbers"
+abbrev pub lacksRoom : ℕ → ℕ → Bool
+lacksRoom room bytes = ltb room (2 * bytes)
+
 -- of a fit state: an earlier stop; ROOM, where fewer numbers than twice the bytes are lent
 unfoldable pub taken : State → List ℕ → ℕ → Gave
 taken s bs room =
     pick (eqb (s .stop) 0)
-    (pick (ltb (room / 2) (length bs)) (unchanged s R.Room) (fed s bs))
+    (pick (lacksRoom room (length bs)) (unchanged s R.Room) (fed s bs))
     (record { state = s; answer = answered s 0 })
 
 -- STATE comes first
@@ -48,7 +53,7 @@ portion s bs room = pick (fitb s) (taken s bs room) (unchanged s R.State)
 
 -- the numbers that it writes
 unfoldable pub kept : State → List ℕ → ℕ → List ℤ
-kept s bs room = pick (eqb (s .stop) 0) (pick (ltb (room / 2) (length bs)) [] (wrote s bs)) []
+kept s bs room = pick (eqb (s .stop) 0) (pick (lacksRoom room (length bs)) [] (wrote s bs)) []
 
 -- none from an unfit state
 unfoldable pub written : State → List ℕ → ℕ → List ℤ

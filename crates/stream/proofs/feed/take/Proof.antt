@@ -3,6 +3,7 @@
 use Rattle.runs.specs.Runs.{over}
 use native.Mathlib.Omega.{arith}
 use Rattle.stream.specs.Calls.{taken, kept, unchanged}
+use Rattle.stream.proofs.Cuts.{room-short, room-enough}
 use Rattle.basis.specs.Choice.{pick}
 use Rattle.basis.proofs.Rules.{tests}
 use borrow.Author.Needs.{needs}
@@ -18,7 +19,7 @@ returns c = search (tests, c .before .if1 .taken, c .answered .ensures)
 
 returns-2 : tie.Need-returns-2
 unfolding taken kept unchanged over pick
-returns-2 c = search (tests, c .if2 .taken, c .before .if1 .left)
+returns-2 c = search (tests, room-short _ _ (c .if2 .taken), c .before .if1 .left)
 
 feed-requires : tie.Need-feed-requires
 feed-requires c κs = let z = c .before .before .before .before .before in (z .pre .0, (z .pre .1, omega (arith, c .before .if2 .left)))
@@ -28,7 +29,7 @@ same-length c = search needs
 
 returns-3 : tie.Need-returns-3
 unfolding taken kept unchanged over pick
-returns-3 c = search (tests, c .before .before .before .if2 .left, c .before .before .before .before .if1 .left, c .before .feed .ensures)
+returns-3 c = search (tests, room-enough _ _ (c .before .before .before .if2 .left), c .before .before .before .before .if1 .left, c .before .feed .ensures)
 
 pub take-spec : {M : Type 1} → statement M
 take-spec =
