@@ -17,12 +17,12 @@ pub data Call : Type 0 where
   put : List ℕ → ℕ → Call
   end : Call
 
--- every byte is one
+-- every number of the list is a byte
 abbrev pub Bytes : List ℕ → Type 0
 Bytes [] = Unit {0}
 Bytes (b ∷ bs) = (b < 256) × Bytes bs
 
--- those of every portion
+-- so is every number of every portion
 abbrev pub BytesIn : List Call → Type 0
 BytesIn [] = Unit {0}
 BytesIn (put bs room ∷ cs) = Bytes bs × BytesIn cs

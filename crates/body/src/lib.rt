@@ -22,7 +22,7 @@ pub struct Opened {
     pub answer: Opening,
 }
 
-// ITB of the first scan; a body that has none says so.
+// ITB of the first scan; none only where the closing is refused.
 pub enum Itb {
     None,
     Bit(u32),

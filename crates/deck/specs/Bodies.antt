@@ -22,10 +22,12 @@ use Rattle.deck.specs.declared.bodies.SegdGave.{SegdGave}
 use Rattle.deck.specs.declared.bodies.SegdClosing.{SegdClosing}
 use Rattle.deck.specs.Flat.{unrefused}
 
+-- why an opening is refused, if it is
 abbrev pub flatOpening : Opening → Told
 flatOpening opening.Ready = unrefused
 flatOpening (opening.Refused r) = told r
 
+-- an opening, with its state
 abbrev pub flatOpened : Opened → SegdOpened
 flatOpened o = record { refusal = flatOpening (o .answer); state = o .state }
 
@@ -35,6 +37,7 @@ flatBy s (GoingOn n) = record { state = s; outcome = 0; refusal = unrefused; sam
 flatBy s (Stopped n r) = record { state = s; outcome = 1; refusal = told r; samples = n }
 flatBy s (Refused r) = record { state = s; outcome = 2; refusal = told r; samples = 0 }
 
+-- a portion or block end, with its state
 abbrev pub flatGave : Gave → SegdGave
 flatGave g = flatBy (g .state) (g .answer)
 
@@ -55,10 +58,12 @@ abbrev pub windowAt : Window → ℕ
 windowAt window.None = 0
 windowAt (window.At t) = t
 
+-- why a closing is refused, if it is
 abbrev pub flatAnswer : Closed → Told
 flatAnswer closed.Whole = unrefused
 flatAnswer (closed.Refused r) = told r
 
+-- a closing, with its report
 abbrev pub flatClosing : Closing → SegdClosing
 flatClosing c =
     record {

@@ -23,16 +23,19 @@ flag t = pick t 1 0
 abbrev pub unrefused : Told
 unrefused = record { number = 0; first = 0; second = 0 }
 
+-- a kind by its number in segd.h
 abbrev pub kindNumber : Kind → ℕ
 kindNumber OnesComplement = 1
 kindNumber SignMagnitude = 2
 kindNumber Justified = 3
 
+-- a format's columns, all 0 where there is no such code
 abbrev pub flatFormat : Found → SegdFormat
 flatFormat (At r) =
     record { found = 1; kind = kindNumber (r .kind); width = r .width; apart = r .apart; fraction = r .fraction; base = r .base; exponent = r .exponent; bias = r .bias }
 flatFormat Nothing = record { found = 0; kind = 0; width = 0; apart = 0; fraction = 0; base = 0; exponent = 0; bias = 0 }
 
+-- a word's sample, or its refusal with the rest 0
 abbrev pub flatWord : Word → SegdWord
 flatWord (Sample m x off) = record { refusal = unrefused; m = m; x = x; off = flag off }
 flatWord (Refused r) = record { refusal = told r; m = pos 0; x = pos 0; off = 0 }

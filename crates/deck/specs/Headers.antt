@@ -15,6 +15,7 @@ use Rattle.deck.specs.declared.headers.SegdHeader.{SegdHeader}
 use Rattle.deck.specs.declared.headers.SegdChannelSet.{SegdChannelSet}
 use Rattle.deck.specs.Flat.{unrefused}
 
+-- a pair, or found 0
 abbrev pub flatPair : Pair → SegdPair
 flatPair (Digits n) = record { found = 1; value = n }
 flatPair NoPair = record { found = 0; value = 0 }
@@ -46,6 +47,7 @@ noHeader = record {
   «samples_per_scan» = 0;
 }
 
+-- the fields, or the refusal with all fields 0
 abbrev pub flatHeader : Answer → SegdHeader
 flatHeader (answered.Accepted h) = record { refusal = unrefused; header = h }
 flatHeader (answered.Refused r) = record { refusal = told r; header = noHeader }
@@ -69,6 +71,7 @@ noSet = record {
   «third_notch» = 0;
 }
 
+-- the same of a channel set
 abbrev pub flatSet : Described → SegdChannelSet
 flatSet (Set d) = record { refusal = unrefused; set = d }
 flatSet (NoSet r) = record { refusal = told r; set = noSet }

@@ -25,10 +25,12 @@ use Rattle.deck.specs.declared.places.SegdByte.{SegdByte}
 use Rattle.deck.specs.declared.places.SegdTime.{SegdTime}
 use Rattle.deck.specs.Flat.{unrefused, flag}
 
+-- k, or the refusal and 0
 abbrev pub flatIndex : Index → SegdIndex
 flatIndex (Sample k) = record { refusal = unrefused; k = k }
 flatIndex (NoSample r) = record { refusal = told r; k = 0 }
 
+-- set, channel and subscan, or the refusal and 0
 abbrev pub flatPlace : Place → SegdPlace
 flatPlace (Sits s c u) = record { refusal = unrefused; set = s; channel = c; subscan = u }
 flatPlace (NoPlace r) = record { refusal = told r; set = 0; channel = 0; subscan = 0 }
@@ -44,10 +46,12 @@ flatSkew Clear b t =
     record { refusal = unrefused; «of_sheet» = flag (eqb (skewFields b) 0); offset = skewPlace b (t - 1); length = samplesOf b (t - 1) }
 flatSkew (At r) b t = record { refusal = told r; «of_sheet» = 0; offset = 0; length = 0 }
 
+-- the skew byte, or the refusal and 0
 abbrev pub flatByte : Skewed → SegdByte
 flatByte (Skew x) = record { refusal = unrefused; value = x }
 flatByte (NoSkew r) = record { refusal = told r; value = 0 }
 
+-- the time, or the refusal and 0
 abbrev pub flatTime : Timed → SegdTime
 flatTime (Time x) = record { refusal = unrefused; time = x }
 flatTime (NoTime r) = record { refusal = told r; time = 0 }

@@ -6,7 +6,7 @@ ghost use Rattle.body.specs.Open.{opened};
 ghost use Rattle.stream.specs.Calls.{portion, written};
 ghost use Rattle.body.specs.Ends.{blockEnd, close};
 ghost use Rattle.deck.specs.Bodies.{flatOpened, flatAnswer, flatGave, flatClosing, itbKnown, itbBit, windowKnown, windowAt};
-use crate::clear;
+use crate::unrefused;
 use body::Closed;
 use body::Itb;
 use body::Opening;
@@ -32,7 +32,7 @@ pub extern "C" fn segd_open(block: &[u8]) -> SegdOpened
     let state = opened.state;
     match answer {
         Opening::Ready => SegdOpened {
-            refusal: clear(),
+            refusal: unrefused(),
             state,
         },
         Opening::Refused(r) => SegdOpened {
@@ -60,7 +60,7 @@ fn gave(g: Gave) -> SegdGave
         Answer::GoingOn { samples } => SegdGave {
             state,
             outcome: 0,
-            refusal: clear(),
+            refusal: unrefused(),
             samples: samples as u64,
         },
         Answer::Stopped { samples, refusal } => SegdGave {
@@ -148,7 +148,7 @@ fn why(answer: Closed) -> Told
     ensures { λ r. ⌜ r ≡ flatAnswer answer ⌝ }
 {
     match answer {
-        Closed::Whole => clear(),
+        Closed::Whole => unrefused(),
         Closed::Refused(r) => refusals::tell(r),
     }
 }

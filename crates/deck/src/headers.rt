@@ -3,7 +3,7 @@ ghost use mathlib.Core.Path.{_≡_};
 ghost use Rattle.block.specs.Bytes.{packedOf};
 ghost use Rattle.header.specs.Answers.{headerAnswer, descriptorAnswer};
 ghost use Rattle.deck.specs.Headers.{flatPair, flatHeader, flatSet, noHeader, noSet};
-use crate::clear;
+use crate::unrefused;
 use block::Pair;
 use header::Answer;
 use header::Described;
@@ -72,7 +72,7 @@ pub extern "C" fn segd_read_header(block: &[u8]) -> SegdHeader
     let answer = header::read_header(block);
     match answer {
         Answer::Accepted(header) => SegdHeader {
-            refusal: clear(),
+            refusal: unrefused(),
             header,
         },
         Answer::Refused(r) => SegdHeader {
@@ -117,7 +117,7 @@ pub extern "C" fn segd_descriptor(block: &[u8], scan_type: u32, set: u32) -> Seg
     let answer = header::descriptor(block, scan_type, set);
     match answer {
         Described::Set(set) => SegdChannelSet {
-            refusal: clear(),
+            refusal: unrefused(),
             set,
         },
         Described::NoSet(r) => SegdChannelSet {

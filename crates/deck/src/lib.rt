@@ -21,7 +21,7 @@ fn flag_of(t: bool) -> u8
 }
 
 // No refusal.
-fn clear() -> Told
+fn unrefused() -> Told
     ensures { λ r. ⌜ r ≡ unrefused ⌝ }
 {
     Told {
@@ -103,7 +103,7 @@ pub extern "C" fn segd_read_word(code: u16, c: u32, word: u32) -> SegdWord
     let answer = words::read_word(code, c, word);
     match answer {
         Word::Sample { m, x, off } => SegdWord {
-            refusal: clear(),
+            refusal: unrefused(),
             m,
             x,
             off: flag_of(off),

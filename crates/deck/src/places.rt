@@ -8,8 +8,8 @@ ghost use Rattle.parts.specs.Parts.{extendedPlace, externalPlace};
 ghost use Rattle.parts.specs.Skews.{skewFault, skewAnswer};
 ghost use Rattle.parts.specs.Times.{timeAnswer};
 ghost use Rattle.deck.specs.Places.{flatIndex, flatPlace, flatPart, flatSkew, flatByte, flatTime};
-use crate::clear;
 use crate::flag_of;
+use crate::unrefused;
 use block::pair_at;
 use layout::Index;
 use layout::Place;
@@ -39,7 +39,7 @@ pub extern "C" fn segd_sample_index(
     let answer = layout::sample_index(block, scan_type, set, channel, subscan);
     match answer {
         Index::Sample(k) => SegdIndex {
-            refusal: clear(),
+            refusal: unrefused(),
             k,
         },
         Index::NoSample(r) => SegdIndex {
@@ -69,7 +69,7 @@ pub extern "C" fn segd_sample_place(block: &[u8], scan_type: u32, k: u32) -> Seg
             channel,
             subscan,
         } => SegdPlace {
-            refusal: clear(),
+            refusal: unrefused(),
             set,
             channel,
             subscan,
@@ -97,7 +97,7 @@ fn part(fault: Fault, offset: usize, length: usize) -> SegdPart
 {
     match fault {
         Fault::Clear => SegdPart {
-            refusal: clear(),
+            refusal: unrefused(),
             offset: offset as u64,
             length: length as u64,
         },
@@ -156,7 +156,7 @@ pub extern "C" fn segd_skew(block: &[u8], sheet: &[u8], scan_type: u32) -> SegdS
             let t = (scan_type - 1) as u8;
             let samples = samples_before(block, t, pair_at(block, 29));
             SegdSkew {
-                refusal: clear(),
+                refusal: unrefused(),
                 of_sheet: flag_of(pair_at(block, 30) == 0),
                 offset: parts::skew_place(block, t) as u64,
                 length: samples as u64,
@@ -185,7 +185,7 @@ pub extern "C" fn segd_skew_at(block: &[u8], sheet: &[u8], scan_type: u32, k: u3
     let answer = parts::skew_at(block, sheet, scan_type, k);
     match answer {
         Skewed::Skew(value) => SegdByte {
-            refusal: clear(),
+            refusal: unrefused(),
             value,
         },
         Skewed::NoSkew(r) => SegdByte {
@@ -215,7 +215,7 @@ pub extern "C" fn segd_sample_time(
     let answer = parts::sample_time(block, sheet, scan_type, k, t);
     match answer {
         Timed::Time(time) => SegdTime {
-            refusal: clear(),
+            refusal: unrefused(),
             time,
         },
         Timed::NoTime(r) => SegdTime {

@@ -13,7 +13,7 @@ use Rattle.basis.specs.Upto.{upto}
 use Rattle.basis.specs.Digits.{written}
 use Rattle.block.specs.Bytes.{isPair, pairOf, packedOf, byte, upper, lower, pair, decimal, threeDigits, binary, pairs}
 use Rattle.general.specs.General.{generalDigits, within, timeInRange, isInterval, countsInRange, headerLength, generalFault}
-use Rattle.sets.specs.Descriptors.{placeOf, descriptorAt, descriptorHolds, fourHolds, setFault, scanTypeFault, descriptorsFault}
+use Rattle.sets.specs.Descriptors.{descriptorPlace, descriptorAt, descriptorHolds, fourHolds, setFault, scanTypeFault, descriptorsFault}
 use Rattle.sets.specs.Samples.{setSamples, samplesOf}
 use Rattle.sets.specs.ChannelSets.{quarters}
 use Rattle.header.specs.Faults.{sizeHolds, sizeFault, sizesFault, skewHolds, headerFault}
@@ -23,16 +23,16 @@ use Rattle.demands.specs.Figures.{Says, header, place, starred, All, fig
 
 -- the starred header breaks no rule
 accepted : Says (header starred 148 378 5 288)
-unfolding pick upto written table findIn rowOf perIn perOf bitsOf isPair pairOf byte upper lower pair decimal threeDigits binary pairs generalDigits within timeInRange isInterval countsInRange headerLength generalFault placeOf descriptorAt descriptorHolds fourHolds setFault scanTypeFault descriptorsFault setSamples samplesOf sizeHolds sizeFault sizesFault skewHolds headerFault
+unfolding pick upto written table findIn rowOf perIn perOf bitsOf isPair pairOf byte upper lower pair decimal threeDigits binary pairs generalDigits within timeInRange isInterval countsInRange headerLength generalFault descriptorPlace descriptorAt descriptorHolds fourHolds setFault scanTypeFault descriptorsFault setSamples samplesOf sizeHolds sizeFault sizesFault skewHolds headerFault
 accepted = (refl, refl, refl, refl, refl)
 
 -- and so its samples have their places
 placed : Says (place starred 112 (Sits 3 1 1))
-unfolding pick upto written isPair pairOf byte upper lower pair decimal threeDigits binary pairs within placeOf descriptorAt setSamples samplesOf _and_ passed setAt setOf hasSample spotOf placeFault placeAnswer
+unfolding pick upto written isPair pairOf byte upper lower pair decimal threeDigits binary pairs within descriptorPlace descriptorAt setSamples samplesOf _and_ passed setAt setOf hasSample spotOf placeFault placeAnswer
 placed = rw (accepted .0)
 
 past : Says (place starred 148 (NoPlace refusal.Index))
-unfolding pick upto written isPair pairOf byte upper lower pair decimal threeDigits binary pairs within placeOf descriptorAt setSamples samplesOf _and_ hasSample placeFault placeAnswer
+unfolding pick upto written isPair pairOf byte upper lower pair decimal threeDigits binary pairs within descriptorPlace descriptorAt setSamples samplesOf _and_ hasSample placeFault placeAnswer
 past = rw (accepted .0)
 
 pub all-figures : All figures

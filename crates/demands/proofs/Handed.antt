@@ -8,7 +8,7 @@ use lib.ListN.{length, drop, length-drop}
 use lib.Seq.{length-take-le}
 use Rattle.refusals.specs.declared.Fault.the-variants.{Clear}
 use Rattle.general.specs.General.{extendedFields, externalFields}
-use Rattle.sets.specs.Descriptors.{placeOf}
+use Rattle.sets.specs.Descriptors.{descriptorPlace}
 use Rattle.sets.specs.Samples.{samplesOf}
 use Rattle.header.specs.Faults.{headerFault}
 use Rattle.header.proofs.Accepted.{external-inside}
@@ -23,7 +23,7 @@ unfolding externalPlace
 external-next b = refl
 
 pub external-last : (b : List ℕ) → headerFault b ≡ Clear → externalPlace b + 32 * externalFields b ≡ length b
-unfolding externalPlace extendedPlace placeOf
+unfolding externalPlace extendedPlace descriptorPlace
 external-last b e = omega (arith, external-inside b e)
 
 module _ (b sheet : List ℕ) (p q : ℕ × ℕ) (t : ℕ) where

@@ -15,11 +15,11 @@ use Rattle.values.specs.Values.{Scaled, scaled, times, Same, Less, lessTest, sa
 use Rattle.refusals.specs.declared.Fault.the-variants.{Clear}
 use Rattle.codes.specs.declared.Row.{Row}
 use Rattle.codes.specs.declared.Found.the-variants.{At}
-use Rattle.codes.specs.Codes.{rowOf, perOf, leadOf, wordBytesOf}
+use Rattle.codes.specs.Codes.{rowOf, wordBytesOf}
 use Rattle.words.specs.Words.{spareOf, signIn, exponentIn, fractionIn, lastIn, sampleIn, wordOf}
 use Rattle.sets.specs.declared.ChannelSet.{ChannelSet}
 use Rattle.sets.specs.ChannelSets.{channelSetOf}
-use Rattle.sets.specs.Descriptors.{placeOf}
+use Rattle.sets.specs.Descriptors.{descriptorPlace}
 use Rattle.sets.specs.Samples.{subscansOf, samplesOf}
 use Rattle.general.specs.General.{codeOf, bytesPerScan, intervalOf, scanTypes, channelSets, skewFields, extendedFields, externalFields}
 use Rattle.header.specs.declared.Header.{Header}
@@ -29,7 +29,7 @@ use Rattle.header.specs.Faults.{headerFault}
 use Rattle.header.specs.Answers.{headerOf, headerAnswer, isSet, descriptorAnswer}
 use Rattle.layout.specs.Indexes.{hasSample}
 use Rattle.layout.specs.Inverse.{Inverse}
-use Rattle.layout.specs.Places.{wordPlace}
+use Rattle.layout.specs.Places.{wordPlaceOf}
 use Rattle.parts.specs.declared.Skewed.the-variants.{Skew}
 use Rattle.parts.specs.declared.Timed.the-variants.{Time}
 use Rattle.parts.specs.Slices.{slice}
@@ -37,10 +37,6 @@ use Rattle.parts.specs.Parts.{extendedPlace, externalPlace}
 use Rattle.parts.specs.Skews.{skewByte, sheetHolds, skewFault, skewPart, skewAnswer}
 use Rattle.parts.specs.Times.{timeBy, timeAnswer}
 use Rattle.demands.specs.Figures.{All, figures}
-
--- the place in its scan of sample k's word, by the code's row
-abbrev wordBegins : List ℕ → ℕ → ℕ
-wordBegins b = wordPlace (perOf (codeOf b)) (leadOf (codeOf b)) (wordBytesOf (codeOf b))
 
 -- a word joined of S, c, Q and the bits not used, as a row has them; and that a word has them
 abbrev ofFields : Row → ℕ → ℕ → ℕ → ℕ → ℕ
@@ -52,14 +48,14 @@ Has r word s e q last = (signIn r word ≡ s) × (exponentIn r 0 word ≡ e) × 
 -- "B = 8 + S/S x bytes per sample": the word of sample k lies at its own bytes of the scan, one after another and to the scan's end;
 -- and what is read of a scan type in the header block lies in the block
 pub record OwnBytes (b : List ℕ) : Type 0 where
-  pub apart : (j k : ℕ) → j < k → wordBegins b j + wordBytesOf (codeOf b) ≤ wordBegins b k
-  pub inside : (t : ℕ) → t < scanTypes b → (k : ℕ) → k < samplesOf b t → wordBegins b k + wordBytesOf (codeOf b) ≤ bytesPerScan b
-  pub fill : (t : ℕ) → t < scanTypes b → 0 < samplesOf b t → wordBegins b (samplesOf b t - 1) + wordBytesOf (codeOf b) ≡ bytesPerScan b
-  pub descriptors : (t s : ℕ) → t < scanTypes b → s < channelSets b → placeOf b t s + 32 ≤ length b
+  pub apart : (j k : ℕ) → j < k → wordPlaceOf (codeOf b) j + wordBytesOf (codeOf b) ≤ wordPlaceOf (codeOf b) k
+  pub inside : (t : ℕ) → t < scanTypes b → (k : ℕ) → k < samplesOf b t → wordPlaceOf (codeOf b) k + wordBytesOf (codeOf b) ≤ bytesPerScan b
+  pub fill : (t : ℕ) → t < scanTypes b → 0 < samplesOf b t → wordPlaceOf (codeOf b) (samplesOf b t - 1) + wordBytesOf (codeOf b) ≡ bytesPerScan b
+  pub descriptors : (t s : ℕ) → t < scanTypes b → s < channelSets b → descriptorPlace b t s + 32 ≤ length b
   -- its subscans are 2^(S/C), and S/C is at most 9
   pub subscans : (t s : ℕ) → t < scanTypes b → s < channelSets b → subscansOf b t s ≤ 512
   -- its skew bytes, where skew is recorded: S/S of them, after its CS descriptors
-  pub skews : (t : ℕ) → t < scanTypes b → (skewFields b ≡ 0 → ⊥) → placeOf b t (channelSets b) + samplesOf b t ≤ length b
+  pub skews : (t : ℕ) → t < scanTypes b → (skewFields b ≡ 0 → ⊥) → descriptorPlace b t (channelSets b) + samplesOf b t ≤ length b
   -- E2 gives each scan type the first one's S/S
   pub alike : (t : ℕ) → t < scanTypes b → samplesOf b t ≡ samplesOf b 0
   -- "then extended, then external header", which ends the block

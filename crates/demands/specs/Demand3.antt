@@ -11,7 +11,7 @@ use Rattle.scan.specs.declared.State.{State}
 use Rattle.runs.specs.Runs.{over}
 use Rattle.stream.specs.declared.Answer.{Answer}
 use Rattle.stream.specs.declared.Answer.the-variants.{GoingOn, Stopped, Refused}
-use Rattle.stream.specs.Calls.{portion, written as wrote}
+use Rattle.stream.specs.Calls as calls
 use Rattle.rules.specs.Tape.{Body, byteAt}
 use Rattle.rules.specs.Scans.{Shape}
 use Rattle.rules.specs.Faults.{byteFault, endFault}
@@ -27,8 +27,8 @@ Enough bs room = 2 * length bs ≤ room
 -- "Cut the bytes into portions anywhere, each lent enough output": two portions, lent m numbers and n, come to the state and write the
 -- samples of the one portion that they make, lent k
 pub record TwoAreOne (s : State) (a b : List ℕ) (m n k : ℕ) : Type 0 where
-  pub state : portion (portion s a m .state) b n .state ≡ portion s (a ++ b) k .state
-  pub samples : wrote s a m ++ wrote (portion s a m .state) b n ≡ wrote s (a ++ b) k
+  pub state : calls.portion (calls.portion s a m .state) b n .state ≡ calls.portion s (a ++ b) k .state
+  pub samples : calls.written s a m ++ calls.written (calls.portion s a m .state) b n ≡ calls.written s (a ++ b) k
 
 -- how many samples an answer says were written
 abbrev pub samplesIn : Answer → ℕ
@@ -36,18 +36,18 @@ samplesIn (GoingOn n) = n
 samplesIn (Stopped n r) = n
 samplesIn (Refused r) = 0
 
--- the numbers of those samples, and the caller's output after the portion
-abbrev told : State → List ℕ → List ℤ → ℕ
-told s bs out = 2 * samplesIn (portion s bs (length out) .answer)
+-- how many numbers those samples are, M and X each; and the caller's output after the portion
+abbrev numbersTold : State → List ℕ → List ℤ → ℕ
+numbersTold s bs out = 2 * samplesIn (calls.portion s bs (length out) .answer)
 
 abbrev pub outputOf : State → List ℕ → List ℤ → List ℤ
-outputOf s bs out = over (wrote s bs (length out)) out
+outputOf s bs out = over (calls.written s bs (length out)) out
 
 -- "A portion answers how many samples it wrote": as many are at the front of the caller's output, and "Output past the samples written
 -- is untouched"
 pub record Output (s : State) (bs : List ℕ) (out : List ℤ) : Type 0 where
-  pub front : take (told s bs out) (outputOf s bs out) ≡ wrote s bs (length out)
-  pub rest : drop (told s bs out) (outputOf s bs out) ≡ drop (told s bs out) out
+  pub front : take (numbersTold s bs out) (outputOf s bs out) ≡ calls.written s bs (length out)
+  pub rest : drop (numbersTold s bs out) (outputOf s bs out) ≡ drop (numbersTold s bs out) out
 
 -- "each sample gives M then X": the numbers of a body are two for each sample before its stop, those of sample n at 2 n. Sample k of
 -- scan j is sample j x S/S + k, and is read at its place in the B bytes of its scan: its word, and the exponents of its group.

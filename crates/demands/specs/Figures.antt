@@ -60,6 +60,7 @@ pub data Figure : Type 0 where
   -- the timing word that comes after one, of I and T
   timing : (I : ℕ) → (T : ℕ) → ℕ → Figure
 
+-- what a line says
 abbrev pub Says : Figure → Type 0
 Says (word code c bits is) = wordOf code c bits ≡ is
 Says (value a b) = Same a b
@@ -71,6 +72,7 @@ Says (place block k is) = placeAnswer block 1 k ≡ is
 Says (time T SS I is) = timeBy T SS I ≡ is
 Says (timing I T is) = nextTiming I T ≡ is
 
+-- the table
 unfoldable pub figures : List Figure
 figures =
     pair 0x99 (Digits 99) ∷
@@ -97,6 +99,7 @@ figures =
     place starred 148 (NoPlace refusal.Index) ∷
     []
 
+-- every line of a table holds
 abbrev pub All : List Figure → Type 0
 All [] = Unit
 All (f ∷ fs) = Says f × All fs

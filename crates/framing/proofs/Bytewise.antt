@@ -12,7 +12,7 @@ use Rattle.basis.specs.Choice.{pick}
 use Rattle.framing.specs.declared.Frame.{Frame}
 use Rattle.framing.specs.declared.Frame.the-variants.{Start, Length, Second, Third, Fourth, Item, Over, Wrong}
 use Rattle.framing.specs.Image.{lengthOf}
-use Rattle.framing.specs.Cuts.{Told, byte, close, mark, Walk, after}
+use Rattle.framing.specs.Cuts.{Event, byte, close, mark, Walk, after}
 
 abbrev pub sized : ℕ → Bool → Frame
 sized zero true = Over
@@ -30,11 +30,11 @@ step (Item (suc n)) b = Item n
 step Over b = Over
 step Wrong b = Wrong
 
-abbrev pub marks : ℕ → List Told
+abbrev pub marks : ℕ → List Event
 marks zero = mark ∷ []
 marks (suc n) = []
 
-abbrev pub emit : Frame → ℕ → List Told
+abbrev pub emit : Frame → ℕ → List Event
 emit Start b = []
 emit (Length m) b = []
 emit (Second m a) b = []
@@ -49,8 +49,8 @@ abbrev pub feed : Frame → List ℕ → Walk
 feed f [] = record { frame = f; told = [] }
 feed f (b ∷ bs) = after (emit f b) (feed (step f b) bs)
 
-after-after : (ts us : List Told) (w : Walk) → after ts (after us w) ≡ after (ts ++ us) w
-after-after ts us w = ap (λ (l : List Told). record { frame = w .frame; told = l }) (sym (append-assoc ts us (w .told)))
+after-after : (ts us : List Event) (w : Walk) → after ts (after us w) ≡ after (ts ++ us) w
+after-after ts us w = ap (λ (l : List Event). record { frame = w .frame; told = l }) (sym (append-assoc ts us (w .told)))
 
 pub feed-append : (f : Frame) (xs ys : List ℕ) → feed f (xs ++ ys) ≡ after ((feed f xs) .told) (feed ((feed f xs) .frame) ys)
 feed-append f [] ys = refl

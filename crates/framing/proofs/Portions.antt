@@ -17,7 +17,7 @@ use Rattle.framing.specs.declared.Step.{Step}
 use Rattle.framing.specs.declared.Met.the-variants.{Part, Whole}
 use Rattle.framing.specs.Image.{lengthOf}
 use Rattle.framing.specs.Next.{meetOf, passedTo, afterLength}
-use Rattle.framing.specs.Cuts.{Told, byte, close, mark, Walk, after, walk, walks, joined, tells, part}
+use Rattle.framing.specs.Cuts.{Event, byte, close, mark, Walk, after, walk, walks, joined, tells, part}
 use Rattle.framing.proofs.Bytewise.{sized, marks, feed, feed-append, feed-over, feed-wrong, feed-part, feed-whole}
 
 -- a portion from place at on
@@ -61,7 +61,7 @@ module _ (k : ℕ) (bytes : List ℕ) (at : ℕ) (here : at < length bytes)
       let a : take (length bytes - at) (drop at bytes) ≡ drop at bytes = take-all (length bytes - at) (drop at bytes) (omega arith) in
       rw a
       (ap (after (map byte (drop at bytes))) (next (Item (n - (length bytes - at))) (length bytes) (omega arith) (omega arith) ∙ rw drop-length)
-      ∙ ap (λ (ts : List Told). record { frame = Item (n - (length bytes - at)); told = ts }) (append-nil (map byte (drop at bytes)))
+      ∙ ap (λ (ts : List Event). record { frame = Item (n - (length bytes - at)); told = ts }) (append-nil (map byte (drop at bytes)))
       ∙ rw (← l) (sym (feed-part n (drop at bytes) (omega arith))))
 
   here-cons : drop at bytes ≡ x ∷ drop (suc at) bytes

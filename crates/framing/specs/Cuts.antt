@@ -12,27 +12,27 @@ use Rattle.framing.specs.Image.{Reading, readingOf}
 use Rattle.framing.specs.Next.{nextOf, endingOf}
 
 -- what is told of an image, byte by byte: an item's byte, the end of an item, a mark
-pub data Told : Type 0 where
-  byte : ℕ → Told
-  close : Told
-  mark : Told
+pub data Event : Type 0 where
+  byte : ℕ → Event
+  close : Event
+  mark : Event
 
 -- what is to be told of an item, a mark being one without bytes
-abbrev pub itemTold : List ℕ → List Told
+abbrev pub itemTold : List ℕ → List Event
 itemTold [] = mark ∷ []
 itemTold (b ∷ bs) = map byte (b ∷ bs) ++ (close ∷ [])
 
 -- of items one after another
-abbrev pub itemsTold : List (List ℕ) → List Told
+abbrev pub itemsTold : List (List ℕ) → List Event
 itemsTold [] = []
 itemsTold (i ∷ is) = itemTold i ++ itemsTold is
 
 -- what is to be told of a whole image
-abbrev pub toldOf : Reading → List Told
+abbrev pub toldOf : Reading → List Event
 toldOf r = itemsTold (r .items) ++ map byte (r .tail)
 
 -- what one answer of `next` tells, where it passed the bytes given
-abbrev pub tells : Met → List ℕ → List Told
+abbrev pub tells : Met → List ℕ → List Event
 tells Framing bytes = []
 tells Part bytes = map byte bytes
 tells Whole bytes = map byte bytes ++ (close ∷ [])
@@ -45,10 +45,10 @@ part at to bytes = take (to - at) (drop at bytes)
 -- where a reader came to, and what it was told on the way
 pub record Walk : Type 0 where
   pub frame : Frame
-  pub told : List Told
+  pub told : List Event
 
 -- what was told before, then a walk
-abbrev pub after : List Told → Walk → Walk
+abbrev pub after : List Event → Walk → Walk
 after ts w = record { frame = w .frame; told = ts ++ w .told }
 
 -- so many answers of `next` one after another, over one portion
@@ -69,10 +69,10 @@ joined [] = []
 joined (p ∷ ps) = p ++ joined ps
 
 -- a walk was told what the image holds, and ends as it ends
-pub record Agrees (r : Reading) (w : Walk) : Type 0 where
+pub record ToldWhole (r : Reading) (w : Walk) : Type 0 where
   pub told : w .told ≡ toldOf r
   pub ending : endingOf (w .frame) ≡ r .ending
 
 -- "reads a reel image from standard input": however the image is cut into portions, its items, its marks and its ending are those of the whole
 abbrev pub Framed : Type 0
-Framed = (portions : List (List ℕ)) → Agrees (readingOf (joined portions)) (walks Start portions)
+Framed = (portions : List (List ℕ)) → ToldWhole (readingOf (joined portions)) (walks Start portions)

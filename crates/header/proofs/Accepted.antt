@@ -18,7 +18,7 @@ use Rattle.codes.specs.Codes.{groupOf, perOf, bitsOf}
 use Rattle.codes.proofs.Rows.{groups}
 use Rattle.general.specs.General.{codeOf, bytesPerScan, intervalOf, scanTypes, channelSets, skewFields, extendedFields, externalFields, within, fieldsBefore, headerLength, generalFault}
 use Rattle.general.proofs.Kept.{General, Step, general-kept, general-multiplexed, within-is, or-true}
-use Rattle.sets.specs.Descriptors.{placeOf, setFault, descriptorsFault}
+use Rattle.sets.specs.Descriptors.{descriptorPlace, setFault, descriptorsFault}
 use Rattle.sets.specs.Samples.{channelsOf, subscansOf, samplesOf}
 use Rattle.sets.proofs.Kept.{each-kept, subscans-few, channels-by-four, samples-by-four}
 use Rattle.header.specs.Faults.{sizeHolds, sizeFault, sizesFault, skewHolds, headerFault}
@@ -114,8 +114,8 @@ fields-inside b t h =
     let up : (t + 1) * w ≤ scanTypes b * w = mul-le-mul-right w (omega arith) in
     omega (arith, add-mul t 1 w)
 
-pub descriptor-inside : (b : List ℕ) → headerFault b ≡ Clear → (t s : ℕ) → t < scanTypes b → s < channelSets b → placeOf b t s + 32 ≤ length b
-unfolding placeOf headerLength
+pub descriptor-inside : (b : List ℕ) → headerFault b ≡ Clear → (t s : ℕ) → t < scanTypes b → s < channelSets b → descriptorPlace b t s + 32 ≤ length b
+unfolding descriptorPlace headerLength
 descriptor-inside b e t s h g = omega (arith, fields-inside b t h, length-is b e)
 
 -- E3: where skew is recorded its fields hold S/S bytes
@@ -127,8 +127,8 @@ skew-covers b e z =
     (or-true (eqb (skewFields b) 0) (eqb (skewFields b) ((samplesOf b 0 + 31) / 32)) (accepted b e .skew))
 
 -- the skew bytes of a scan type, which follow its CS descriptors
-pub skew-inside : (b : List ℕ) → headerFault b ≡ Clear → (t : ℕ) → t < scanTypes b → (skewFields b ≡ 0 → ⊥) → placeOf b t (channelSets b) + samplesOf b t ≤ length b
-unfolding placeOf headerLength
+pub skew-inside : (b : List ℕ) → headerFault b ≡ Clear → (t : ℕ) → t < scanTypes b → (skewFields b ≡ 0 → ⊥) → descriptorPlace b t (channelSets b) + samplesOf b t ≤ length b
+unfolding descriptorPlace headerLength
 skew-inside b e t h z = omega (arith, fields-inside b t h, length-is b e, same-samples b e t h, skew-covers b e z)
 
 -- the extended header, and the external header to the block's end

@@ -42,7 +42,7 @@ indexAfter (At r) k = NoSample r
 unfoldable pub indexAnswer : List ℕ → ℕ → ℕ → ℕ → ℕ → Index
 indexAnswer b t s c u = indexAfter (indexFault b t s c u) (indexOf b t s c u)
 
--- 1 where set s, counting from 0, ends at sample k or before it, of sets that have f 0, f 1, .. samples
+-- 1 where every sample of set s, counting from 0, comes before sample k, of sets that have f 0, f 1, .. samples
 unfoldable pub passed : (ℕ → ℕ) → ℕ → ℕ → ℕ
 passed f k s = pick (leb (sumUpto f (s + 1)) k) 1 0
 
@@ -62,7 +62,7 @@ hasSample b t k = within 1 t (scanTypes b) and ltb k (samplesOf b (t - 1))
 abbrev pub sits : List ℕ → ℕ → ℕ → ℕ → Place
 sits b t s j = Sits (s + 1) (j % channelsOf b t s + 1) (j / channelsOf b t s)
 
--- scan type t counts from 0
+-- the place of sample k of scan type t, t counting from 0
 unfoldable pub spotOf : List ℕ → ℕ → ℕ → Place
 spotOf b t k = sits b t (setOf b t k) (k - samplesBefore b t (setOf b t k))
 

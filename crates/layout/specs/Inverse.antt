@@ -19,6 +19,7 @@ pub record Reached (b : List ℕ) (t k : ℕ) : Type 0 where
   pub index : indexAnswer b t set channel subscan ≡ Sample k
   pub place : placeAnswer b t k ≡ Sits set channel subscan
 
+-- the two questions of a block are each the other's inverse
 pub record Inverse (b : List ℕ) : Type 0 where
   pub back : (t s c u k : ℕ) → indexAnswer b t s c u ≡ Sample k → placeAnswer b t k ≡ Sits s c u
   pub forth : (t s c u k : ℕ) → placeAnswer b t k ≡ Sits s c u → indexAnswer b t s c u ≡ Sample k

@@ -2,6 +2,7 @@
 -- `width` bytes of a word. Samples count from 0, and so do places in the scan: a place is how many bytes of the scan come before it.
 -- Assumes nothing.
 use Prim.Native.Nat.{ℕ, _+_, _*_, _/_, _%_}
+use Rattle.codes.specs.Codes.{perOf, leadOf, wordBytesOf}
 
 -- "four c of 4 bits, then four of S Q14 0": a group's exponents, then its words
 abbrev pub groupBytes : ℕ → ℕ → ℕ → ℕ
@@ -14,3 +15,10 @@ groupPlace per lead width k = 8 + k / per * groupBytes per lead width
 -- the place of sample k's word: in its group, after the exponents and the words before it
 abbrev pub wordPlace : ℕ → ℕ → ℕ → ℕ → ℕ
 wordPlace per lead width k = groupPlace per lead width k + (lead + k % per * width)
+
+-- both by the row of a code
+abbrev pub groupPlaceOf : ℕ → ℕ → ℕ
+groupPlaceOf code = groupPlace (perOf code) (leadOf code) (wordBytesOf code)
+
+abbrev pub wordPlaceOf : ℕ → ℕ → ℕ
+wordPlaceOf code = wordPlace (perOf code) (leadOf code) (wordBytesOf code)

@@ -27,8 +27,8 @@ use Rattle.listing.specs.declared.Outcome.the-variants as O
 use Rattle.listing.specs.Lines.{lineOf}
 use Rattle.lister.specs.declared.file.File.{File}
 use Rattle.lister.specs.declared.file.File.the-variants.{Empty, Heading, Large, Refused, Blocks}
-use Rattle.lister.specs.declared.file.Said.{Said}
-use Rattle.lister.specs.declared.file.Said.the-variants.{Nothing, Line}
+use Rattle.lister.specs.declared.file.AtMark.{AtMark}
+use Rattle.lister.specs.declared.file.AtMark.the-variants.{Nothing, Line}
 use Rattle.lister.specs.Listing.{bodyIn, byHeader, outcomeOf, nextNumber}
 use Rattle.lister.specs.File.{partOf, itemEnd, headedBy, closedOf, saidOf}
 use Rattle.scan.proofs.Fold.{after-append}
@@ -108,11 +108,11 @@ end-form header (h ∷ blocks) x xs kept = go (leb (length h) (length header)) (
     go false d = refl
 
 -- ---- what is said at the mark
-abbrev pub countBy : Said → ℕ → ℕ
+abbrev pub countBy : AtMark → ℕ → ℕ
 countBy Nothing count = count
 countBy (Line o) count = nextNumber count
 
-abbrev pub textBy : Said → ℕ → List ℕ
+abbrev pub textBy : AtMark → ℕ → List ℕ
 textBy Nothing count = []
 textBy (Line o) count = lineOf (nextNumber count) o
 

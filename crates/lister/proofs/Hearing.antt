@@ -18,8 +18,8 @@ use Rattle.listing.specs.Lines.{lineOf}
 use Rattle.listing.specs.Lent.{storedIn}
 use Rattle.lister.specs.declared.file.File.{File}
 use Rattle.lister.specs.declared.file.File.the-variants.{Empty, Heading, Large, Refused, Blocks}
-use Rattle.lister.specs.declared.file.Said.{Said}
-use Rattle.lister.specs.declared.file.Said.the-variants.{Nothing, Line}
+use Rattle.lister.specs.declared.file.AtMark.{AtMark}
+use Rattle.lister.specs.declared.file.AtMark.the-variants.{Nothing, Line}
 use Rattle.lister.specs.File.{partOf, bufferAfter, numbersAfter, itemEnd, saidOf}
 use Rattle.agree.specs.Calls.{Bytes}
 use Rattle.lister.specs.Listing.{nextNumber}
@@ -137,7 +137,7 @@ unfolding pick
 hear-mark most u f count header numbers line out g =
     rw (← g .rel .file-is, ← g .rel .count-is, ← g .rel .out-is) (go (saidOf f))
   where
-    go : (s : Said)
+    go : (s : AtMark)
         → Good (length header) most (record { items = []; have = []; count = countBy s count; out = out ++ textBy s count })
         ((marked s count line) .file) ((marked s count line) .count) header numbers (markedLine s count line)
         (out ++ take ((marked s count line) .length) (markedLine s count line))

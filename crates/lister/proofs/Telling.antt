@@ -3,7 +3,7 @@
 use Prim.Native.Nat.{ℕ}
 use mathlib.Core.Path.{_≡_, refl, sym, ap, _∙_}
 use mathlib.Core.List.{List, [], _∷_, _++_, map, append-assoc, append-nil}
-use Rattle.framing.specs.Cuts.{Told, byte, close, mark, itemsTold, joined}
+use Rattle.framing.specs.Cuts.{Event, byte, close, mark, itemsTold, joined}
 use Rattle.listing.specs.Lines.{lineOf}
 use Rattle.lister.specs.File.{saidOf}
 use Rattle.lister.specs.Listing.{onto, filesOf, linesOf, outcomeOf, nextNumber}
@@ -17,7 +17,7 @@ pub record Sum : Type 0 where
   pub count : ℕ
   pub out : List ℕ
 
-abbrev pub tell : ℕ → Sum → Told → Sum
+abbrev pub tell : ℕ → Sum → Event → Sum
 tell cap u (byte b) = record { items = u .items; have = u .have ++ (b ∷ []); count = u .count; out = u .out }
 tell cap u close = record { items = u .items ++ (u .have ∷ []); have = []; count = u .count; out = u .out }
 tell cap u mark = record {
@@ -27,11 +27,11 @@ tell cap u mark = record {
   out = u .out ++ textBy (saidOf (fileAt cap (u .items) (u .have))) (u .count);
 }
 
-abbrev pub tellAll : ℕ → Sum → List Told → Sum
+abbrev pub tellAll : ℕ → Sum → List Event → Sum
 tellAll cap u [] = u
 tellAll cap u (t ∷ ts) = tellAll cap (tell cap u t) ts
 
-pub tell-append : (cap : ℕ) (u : Sum) (ts us : List Told) → tellAll cap u (ts ++ us) ≡ tellAll cap (tellAll cap u ts) us
+pub tell-append : (cap : ℕ) (u : Sum) (ts us : List Event) → tellAll cap u (ts ++ us) ≡ tellAll cap (tellAll cap u ts) us
 tell-append cap u [] us = refl
 tell-append cap u (t ∷ ts) us = tell-append cap (tell cap u t) ts us
 

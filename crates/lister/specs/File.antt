@@ -23,8 +23,8 @@ use Rattle.listing.specs.declared.Outcome.the-variants as O
 use Rattle.listing.specs.Lent.{storedIn}
 use Rattle.lister.specs.declared.file.File.{File}
 use Rattle.lister.specs.declared.file.File.the-variants.{Empty, Heading, Large, Refused, Blocks}
-use Rattle.lister.specs.declared.file.Said.{Said}
-use Rattle.lister.specs.declared.file.Said.the-variants.{Nothing, Line}
+use Rattle.lister.specs.declared.file.AtMark.{AtMark}
+use Rattle.lister.specs.declared.file.AtMark.the-variants.{Nothing, Line}
 
 -- more bytes of a header item of which `got` have come
 abbrev pub gathered : ℕ → List ℕ → List ℕ → File
@@ -81,7 +81,7 @@ abbrev pub closedOf : ℕ → ℕ → State → Outcome
 closedOf file format s = toldBy file format (s .place) (close s .answer) (close s .report)
 
 -- what is said at the mark
-abbrev pub saidOf : File → Said
+abbrev pub saidOf : File → AtMark
 saidOf Empty = Nothing
 saidOf (Heading got) = Nothing
 saidOf Large = Line (O.Refused R.Large 0)

@@ -6,12 +6,9 @@ use mathlib.Core.List.{List}
 use lib.IntN.{ℤ}
 use lib.ListN.{length}
 use Rattle.framing.specs.Cuts.{joined}
+use Rattle.listing.specs.Lent.{lineRoom}
 use Rattle.lister.specs.Listing.{headerRoom, printedOf}
 use Rattle.lister.specs.Turn.{lists, printed, Portions, fresh}
-
--- "one line" per file: the longest line that there is has room in so many bytes
-abbrev pub lineRoom : ℕ
-lineRoom = 128
 
 -- "The program `reel` reads a reel image": cut into any portions for whose samples the numbers' buffer has room ("A portion needs twice
 -- its length in output numbers"), what is printed in all is the listing of the image that the portions make

@@ -44,7 +44,7 @@ byHeader (Refused r) header blocks = O.Refused r 0
 byHeader (Accepted h) header blocks =
     reported (h .file) (h .code) (length (joined blocks)) (closing (shapeOf header) (bodyIn blocks))
 
--- "LARGE, lister only: header item above 65,536 bytes": the room that the lister lends for a header item
+-- "LARGE, lister only: header item above 65,536 bytes"
 abbrev pub headerRoom : ℕ
 headerRoom = 65536
 

@@ -1,4 +1,4 @@
--- One step of the lister: the tape and the three lent buffers; and the lister over portions, with all that it prints.
+-- One step of the lister: its progress and the three lent buffers; and the lister over portions, with all that it prints.
 -- Assumes nothing.
 use Prim.Native.Nat.{ℕ, zero, suc, _≤_}
 use mathlib.Core.List.{List, [], _∷_, _++_}
@@ -17,8 +17,8 @@ use Rattle.listing.specs.Lines.{lineOf, lastOf}
 use Rattle.listing.specs.Lent.{lineIn, lengthIn}
 use Rattle.lister.specs.declared.file.File.{File}
 use Rattle.lister.specs.declared.file.File.the-variants.{Empty}
-use Rattle.lister.specs.declared.file.Said.{Said}
-use Rattle.lister.specs.declared.file.Said.the-variants.{Nothing, Line}
+use Rattle.lister.specs.declared.file.AtMark.{AtMark}
+use Rattle.lister.specs.declared.file.AtMark.the-variants.{Nothing, Line}
 use Rattle.lister.specs.declared.Heard.{Heard}
 use Rattle.lister.specs.declared.Progress.{Progress}
 use Rattle.lister.specs.declared.Turn.{Turn}
@@ -26,12 +26,12 @@ use Rattle.lister.specs.Listing.{nextNumber}
 use Rattle.lister.specs.File.{partOf, bufferAfter, numbersAfter, itemEnd, saidOf}
 
 -- a mark, where something or nothing is said of the file
-abbrev pub marked : Said → ℕ → List ℕ → Heard
+abbrev pub marked : AtMark → ℕ → List ℕ → Heard
 marked Nothing count line = record { file = Empty; count = count; length = 0 }
 marked (Line o) count line = record { file = Empty; count = nextNumber count; length = lengthIn line (lineOf (nextNumber count) o) }
 
 -- and the line's buffer
-abbrev pub markedLine : Said → ℕ → List ℕ → List ℕ
+abbrev pub markedLine : AtMark → ℕ → List ℕ → List ℕ
 markedLine Nothing count line = line
 markedLine (Line o) count line = lineIn line (lineOf (nextNumber count) o)
 
@@ -66,33 +66,36 @@ heardLine f count Mark line = markedLine (saidOf f) count line
 
 -- a step of the framing and what was heard, as one turn
 abbrev pub joinedTurn : Step → Heard → Turn
-joinedTurn s h = record { tape = record { frame = s .frame; file = h .file; count = h .count }; to = s .to; length = h .length }
+joinedTurn s h = record { progress = record { frame = s .frame; file = h .file; count = h .count }; to = s .to; length = h .length }
 
 -- one step from a place of a portion; past its end nothing moves
 abbrev pub turnOf : Progress → List ℕ → ℕ → List ℕ → List ℤ → List ℕ → Turn
 turnOf t bytes at header numbers line =
     pick (leb (length bytes) at)
-    (record { tape = t; to = at; length = 0 })
+    (record { progress = t; to = at; length = 0 })
     (joinedTurn (nextOf (t .frame) bytes at)
     (heardOf (t .file) (t .count) ((nextOf (t .frame) bytes at) .met) (part at ((nextOf (t .frame) bytes at) .to) bytes) header numbers line))
 
+-- the header's buffer after that step
 abbrev pub turnHeader : Progress → List ℕ → ℕ → List ℕ → List ℕ
 turnHeader t bytes at header =
     pick (leb (length bytes) at) header
     (heardHeader (t .file) ((nextOf (t .frame) bytes at) .met) (part at ((nextOf (t .frame) bytes at) .to) bytes) header)
 
+-- the numbers' buffer
 abbrev pub turnNumbers : Progress → List ℕ → ℕ → List ℤ → List ℤ
 turnNumbers t bytes at numbers =
     pick (leb (length bytes) at) numbers
     (heardNumbers (t .file) ((nextOf (t .frame) bytes at) .met) (part at ((nextOf (t .frame) bytes at) .to) bytes) numbers)
 
+-- the line's buffer
 abbrev pub turnLine : Progress → List ℕ → ℕ → List ℕ → List ℕ
 turnLine t bytes at line =
     pick (leb (length bytes) at) line (heardLine (t .file) (t .count) ((nextOf (t .frame) bytes at) .met) line)
 
 -- the lister with its buffers, and all that it has printed: after each step, so many bytes of the line's buffer
 pub record Lister : Type 0 where
-  pub tape : Progress
+  pub progress : Progress
   pub header : List ℕ
   pub numbers : List ℤ
   pub line : List ℕ
@@ -101,22 +104,22 @@ pub record Lister : Type 0 where
 -- one step
 abbrev pub turned : Lister → List ℕ → ℕ → Lister
 turned s bytes at = record {
-  tape = (turnOf (s .tape) bytes at (s .header) (s .numbers) (s .line)) .tape;
-  header = turnHeader (s .tape) bytes at (s .header);
-  numbers = turnNumbers (s .tape) bytes at (s .numbers);
-  line = turnLine (s .tape) bytes at (s .line);
-  out = s .out ++ take ((turnOf (s .tape) bytes at (s .header) (s .numbers) (s .line)) .length) (turnLine (s .tape) bytes at (s .line));
+  progress = (turnOf (s .progress) bytes at (s .header) (s .numbers) (s .line)) .progress;
+  header = turnHeader (s .progress) bytes at (s .header);
+  numbers = turnNumbers (s .progress) bytes at (s .numbers);
+  line = turnLine (s .progress) bytes at (s .line);
+  out = s .out ++ take ((turnOf (s .progress) bytes at (s .header) (s .numbers) (s .line)) .length) (turnLine (s .progress) bytes at (s .line));
 }
 
 -- some steps over one portion
 abbrev pub turns : ℕ → Lister → List ℕ → ℕ → Lister
 turns zero s bytes at = s
-turns (suc k) s bytes at = turns k (turned s bytes at) bytes ((turnOf (s .tape) bytes at (s .header) (s .numbers) (s .line)) .to)
+turns (suc k) s bytes at = turns k (turned s bytes at) bytes ((turnOf (s .progress) bytes at (s .header) (s .numbers) (s .line)) .to)
 
 -- all of a portion, from its first byte
 abbrev pub walked : Progress → List ℕ → List ℕ → List ℤ → List ℕ → Lister
 walked t bytes header numbers line =
-    turns (length bytes) (record { tape = t; header = header; numbers = numbers; line = line; out = [] }) bytes 0
+    turns (length bytes) (record { progress = t; header = header; numbers = numbers; line = line; out = [] }) bytes 0
 
 -- portion after portion, each from its first byte until all are used
 abbrev pub lists : Lister → List (List ℕ) → Lister
@@ -126,11 +129,11 @@ lists s (p ∷ ps) = lists (turns (length p) s p 0) ps
 -- before the first byte, with the buffers that are lent
 abbrev pub fresh : List ℕ → List ℤ → List ℕ → Lister
 fresh header numbers line =
-    record { tape = record { frame = Start; file = Empty; count = 0 }; header = header; numbers = numbers; line = line; out = [] }
+    record { progress = record { frame = Start; file = Empty; count = 0 }; header = header; numbers = numbers; line = line; out = [] }
 
 -- what is printed in all, with the last line
 abbrev pub printed : Lister → List ℕ
-printed s = s .out ++ lastOf (endingOf (s .tape .frame))
+printed s = s .out ++ lastOf (endingOf (s .progress .frame))
 
 -- portions of at most so many bytes
 abbrev pub Portions : ℕ → List (List ℕ) → Type 0

@@ -30,7 +30,7 @@ pub enum File {
 }
 
 // What is said of a file at its mark: nothing of one that has no item.
-pub(crate) enum Said {
+pub(crate) enum AtMark {
     Nothing,
     Line(Outcome),
 }
@@ -142,21 +142,21 @@ fn closed(file: u16, format: u16, state: State) -> Outcome
     }
 }
 
-pub(crate) fn outcome(f: File) -> Said
+pub(crate) fn outcome(f: File) -> AtMark
     ensures { λ r. ⌜ r ≡ saidOf f ⌝ }
 {
     match f {
-        File::Empty => Said::Nothing,
-        File::Heading { .. } => Said::Nothing,
-        File::Large => Said::Line(Outcome::Refused {
+        File::Empty => AtMark::Nothing,
+        File::Heading { .. } => AtMark::Nothing,
+        File::Large => AtMark::Line(Outcome::Refused {
             refusal: Refusal::Large,
             bytes: 0,
         }),
-        File::Refused { refusal } => Said::Line(Outcome::Refused { refusal, bytes: 0 }),
+        File::Refused { refusal } => AtMark::Line(Outcome::Refused { refusal, bytes: 0 }),
         File::Blocks {
             file,
             format,
             state,
-        } => Said::Line(closed(file, format, state)),
+        } => AtMark::Line(closed(file, format, state)),
     }
 }

@@ -7,9 +7,9 @@ ghost use Prim.Native.Nat.{_/_, _≤_};
 ghost use lib.ListN.{length};
 ghost use Rattle.lister.specs.File.{saidOf};
 ghost use Rattle.lister.specs.Listing.{headerRoom};
-ghost use Rattle.lister.specs.Listed.{lineRoom};
+ghost use Rattle.listing.specs.Lent.{lineRoom};
 ghost use Rattle.lister.specs.Turn.{marked, markedLine, heardOf, heardHeader, heardNumbers, heardLine, turnOf, turnHeader, turnNumbers, turnLine, walked};
-use file::Said;
+use file::AtMark;
 use file::item_end;
 use file::outcome;
 use file::part;
@@ -32,9 +32,9 @@ pub struct Progress {
     pub count: u64,
 }
 
-// The tape after a step, the place in the portion that it came to, and how long a new line is.
+// How far the reel has been read after a step, the place in the portion that it came to, and how long a new line is.
 pub struct Turn {
-    pub tape: Progress,
+    pub progress: Progress,
     pub to: usize,
     pub length: usize,
 }
@@ -45,12 +45,12 @@ fn mark(f: File, count: u64, line: &mut [u8]) -> Heard
 {
     let s = outcome(f);
     match s {
-        Said::Nothing => Heard {
+        AtMark::Nothing => Heard {
             file: File::Empty,
             count,
             length: 0,
         },
-        Said::Line(outcome) => {
+        AtMark::Line(outcome) => {
             let next = std::num::wrapping_add_u64(count, 1);
             let length = listing::record_line(line, next, outcome);
             Heard {
@@ -115,7 +115,7 @@ pub fn advance(
 {
     if bytes.len() <= at {
         return Turn {
-            tape: t,
+            progress: t,
             to: at,
             length: 0,
         };
@@ -129,7 +129,7 @@ pub fn advance(
     let frame = s.frame;
     let file = h.file;
     Turn {
-        tape: Progress {
+        progress: Progress {
             frame,
             file,
             count: h.count,
@@ -155,18 +155,18 @@ fn walk(
     line: &mut [u8],
 ) -> Progress
     requires { ⌜ (length (now bytes) ≤ length (now numbers) / 2) × (length (now header) ≡ headerRoom) × (lineRoom ≤ length (now line)) ⌝ }
-    ensures { λ r. ⌜ (r ≡ walked start (now (bytes .entry)) (now (header .entry)) (now (numbers .entry)) (now (line .entry)) .tape) × (now (header .exit) ≡ walked start (now (bytes .entry)) (now (header .entry)) (now (numbers .entry)) (now (line .entry)) .header) × (now (numbers .exit) ≡ walked start (now (bytes .entry)) (now (header .entry)) (now (numbers .entry)) (now (line .entry)) .numbers) × (now (line .exit) ≡ walked start (now (bytes .entry)) (now (header .entry)) (now (numbers .entry)) (now (line .entry)) .line) ⌝ }
+    ensures { λ r. ⌜ (r ≡ walked start (now (bytes .entry)) (now (header .entry)) (now (numbers .entry)) (now (line .entry)) .progress) × (now (header .exit) ≡ walked start (now (bytes .entry)) (now (header .entry)) (now (numbers .entry)) (now (line .entry)) .header) × (now (numbers .exit) ≡ walked start (now (bytes .entry)) (now (header .entry)) (now (numbers .entry)) (now (line .entry)) .numbers) × (now (line .exit) ≡ walked start (now (bytes .entry)) (now (header .entry)) (now (numbers .entry)) (now (line .entry)) .line) ⌝ }
 {
-    let mut tape = start;
+    let mut progress = start;
     let mut at: usize = 0;
     while at < bytes.len() {
-        let r = advance(tape, bytes, at, header, numbers, line);
-        let next = r.tape;
-        tape = next;
+        let r = advance(progress, bytes, at, header, numbers, line);
+        let next = r.progress;
+        progress = next;
         at = r.to;
         print(line, r.length);
     }
-    tape
+    progress
 }
 
 // Whether a read that answered got was the last: an interrupted one is tried again, and any other
@@ -193,7 +193,7 @@ pub fn list(fd: i32) {
     let mut header = io::large_buffer();
     let mut numbers = [0i32; 131072];
     let mut line = [0u8; 128];
-    let mut tape = Progress {
+    let mut progress = Progress {
         frame: Frame::Start,
         file: File::Empty,
         count: 0,
@@ -205,9 +205,9 @@ pub fn list(fd: i32) {
             break;
         }
         let n = io::count(got, &buf);
-        tape = walk(tape, &buf[..n], &mut header, &mut numbers, &mut line);
+        progress = walk(progress, &buf[..n], &mut header, &mut numbers, &mut line);
         turns -= 1;
     }
-    let frame = tape.frame;
+    let frame = progress.frame;
     finish(frame, &mut line);
 }

@@ -2,7 +2,7 @@
 -- Assumes nothing.
 use Prim.Native.Nat.{ℕ, suc, _+_, _≤_, _<_}
 use mathlib.Core.Path.{_≡_, ap, _∙_}
-use mathlib.Core.List.{List, [], _∷_, _++_, append-assoc}
+use mathlib.Core.List.{List, [], _∷_, _++_}
 use native.Mathlib.Nat.{add-zero, zero-add}
 use native.Mathlib.Omega.{arith}
 use native.Mathlib.Numerals.{add-one}
@@ -44,7 +44,3 @@ four old xs ys zs ws at {o₁} {o₂} {o₃} {o₄} {t₁} a b c d e f g h =
 -- a text that stands at the start
 pub over : (text old : List ℕ) → length text ≤ length old → sets old 0 text ≡ text ++ drop (length text) old
 over text old h = sets-eq text old 0 (omega arith) ∙ rw zero-add
-
-pub regroup : (a b c d e f g h i j k l : List ℕ)
-    → (a ++ ((b ++ c) ++ (d ++ e))) ++ (((f ++ g) ++ ((h ++ i) ++ (j ++ k))) ++ l) ≡ a ++ (b ++ (c ++ (d ++ (e ++ (f ++ (g ++ (h ++ (i ++ (j ++ (k ++ l))))))))))
-regroup a b c d e f g h i j k l = simp append-assoc

@@ -7,13 +7,17 @@ use lib.ListN.{length, drop}
 use lib.Seq.{sets}
 use Rattle.basis.specs.Choice.{pick}
 
--- the line at the buffer's start, the rest as it was; a buffer of fewer than 128 bytes stays as it was
+-- "one line" per file: the longest line that there is has room in so many bytes
+abbrev pub lineRoom : ℕ
+lineRoom = 128
+
+-- the line at the buffer's start, the rest as it was; a buffer that is shorter than that stays as it was
 abbrev pub lineIn : List ℕ → List ℕ → List ℕ
-lineIn old line = pick (ltb (length old) 128) old (line ++ drop (length line) old)
+lineIn old line = pick (ltb (length old) lineRoom) old (line ++ drop (length line) old)
 
 -- how many bytes of the line it holds
 abbrev pub lengthIn : List ℕ → List ℕ → ℕ
-lengthIn old line = pick (ltb (length old) 128) 0 (length line)
+lengthIn old line = pick (ltb (length old) lineRoom) 0 (length line)
 
 -- the bytes from a place on, where they fit there
 abbrev pub storedIn : List ℕ → ℕ → List ℕ → List ℕ

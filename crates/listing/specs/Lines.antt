@@ -37,17 +37,16 @@ placeFor number first bytes = pick (ltb number 14) 0 (pick (leb number 18) first
 abbrev pub placeOf : Refusal → ℕ → ℕ
 placeOf r bytes = placeFor (told r .number) (told r .first) bytes
 
+-- "record number, then `file`, `format`" with their values, and "`scans`, `samples`, `off`" with theirs
+abbrev pub namesOf : ℕ → ℕ → ℕ → List ℕ
+namesOf n file format = decimalOf n ++ ((ascii " file " ++ digits 10 4 file) ++ (ascii " format " ++ digits 16 4 format))
+
+abbrev pub countsOf : ℕ → ℕ → ℕ → List ℕ
+countsOf scans samples off = (ascii " scans " ++ decimalOf scans) ++ ((ascii " samples " ++ decimalOf samples) ++ (ascii " off " ++ decimalOf off))
+
 -- "record number, then `file`, `format`, `scans`, `samples`, `off` with their values, or `refused R at P`"
 abbrev pub lineOf : ℕ → Outcome → List ℕ
-lineOf n (Listed file format scans samples off) =
-    joined
-    (decimalOf n
-    ∷ ascii " file " ∷ digits 10 4 file
-    ∷ ascii " format " ∷ digits 16 4 format
-    ∷ ascii " scans " ∷ decimalOf scans
-    ∷ ascii " samples " ∷ decimalOf samples
-    ∷ ascii " off " ∷ decimalOf off
-    ∷ ascii "\n" ∷ [])
+lineOf n (Listed file format scans samples off) = namesOf n file format ++ (countsOf scans samples off ++ ascii "\n")
 lineOf n (Refused refusal bytes) =
     joined
     (decimalOf n
@@ -60,10 +59,3 @@ abbrev pub lastOf : Ending → List ℕ
 lastOf Ok = ascii "reel ok\n"
 lastOf Cut = ascii "reel cut\n"
 lastOf Version = ascii "reel version\n"
-
--- the two halves of a listed record's line, as the code puts them
-abbrev pub namesOf : ℕ → ℕ → ℕ → List ℕ
-namesOf n file format = decimalOf n ++ ((ascii " file " ++ digits 10 4 file) ++ (ascii " format " ++ digits 16 4 format))
-
-abbrev pub countsOf : ℕ → ℕ → ℕ → List ℕ
-countsOf scans samples off = (ascii " scans " ++ decimalOf scans) ++ ((ascii " samples " ++ decimalOf samples) ++ (ascii " off " ++ decimalOf off))

@@ -17,7 +17,7 @@ use Rattle.refusals.specs.Order.{when}
 use Rattle.refusals.proofs.Clears.{both-clear}
 use Rattle.general.specs.General.{scanTypes, channelSets, skewFields, extendedFields, externalFields, headerLength, within}
 use Rattle.general.proofs.Kept.{within-is}
-use Rattle.sets.specs.Descriptors.{placeOf}
+use Rattle.sets.specs.Descriptors.{descriptorPlace}
 use Rattle.sets.specs.Samples.{samplesOf}
 use Rattle.header.specs.Faults.{headerFault}
 use Rattle.header.proofs.Accepted.{length-is, types-few, same-samples, skew-inside, extended-inside, external-inside}
@@ -34,11 +34,11 @@ unfolding headerLength
 block-long b e = omega (arith, length-is b e)
 
 pub extended-fits : (b : List ℕ) → headerFault b ≡ Clear → extendedPlace b + 32 * extendedFields b ≤ length b
-unfolding extendedPlace placeOf
+unfolding extendedPlace descriptorPlace
 extended-fits b e = omega (arith, extended-inside b e)
 
 pub external-fits : (b : List ℕ) → headerFault b ≡ Clear → externalPlace b + 32 * externalFields b ≤ length b
-unfolding externalPlace extendedPlace placeOf
+unfolding externalPlace extendedPlace descriptorPlace
 external-fits b e = omega (arith, external-inside b e)
 
 -- what a question for skew that is not refused tells: scan type t counts from 1
@@ -71,7 +71,7 @@ unfolding skewPlace source sheetHolds pick
 skew-fits b sheet t e h = by-test (eqb (skewFields b) 0) refl
   where
     by-test : (x : Bool) → eqb (skewFields b) 0 ≡ x → (not x || eqb (length sheet) (scanTypes b * samplesOf b 0)) ≡ true
-        → pick x (t * samplesOf b t) (placeOf b t (channelSets b)) + samplesOf b t ≤ length (pick x sheet b)
+        → pick x (t * samplesOf b t) (descriptorPlace b t (channelSets b)) + samplesOf b t ≤ length (pick x sheet b)
     by-test true p q =
         let n = samplesOf b t in
         let up : (t + 1) * n ≤ scanTypes b * n = mul-le-mul-right n (omega arith) in

@@ -5,7 +5,7 @@ use mathlib.Core.List.{List}
 use Rattle.refusals.specs.declared.Fault.{Fault}
 use Rattle.refusals.specs.declared.Fault.the-variants.{Clear, At}
 use Rattle.general.specs.General.{scanTypes, extendedFields, externalFields}
-use Rattle.sets.specs.Descriptors.{placeOf}
+use Rattle.sets.specs.Descriptors.{descriptorPlace}
 use Rattle.header.specs.Faults.{headerFault}
 use Rattle.parts.specs.Slices.{Slice, part}
 
@@ -16,7 +16,7 @@ partAfter (At r) block p = part block 0 0
 
 -- the bytes before the extended header, which comes when every scan type has had its descriptors and skew fields
 unfoldable pub extendedPlace : List ℕ → ℕ
-extendedPlace b = placeOf b (scanTypes b) 0
+extendedPlace b = descriptorPlace b (scanTypes b) 0
 
 -- and before the external header, which comes next
 unfoldable pub externalPlace : List ℕ → ℕ

@@ -12,7 +12,7 @@ use Rattle.refusals.specs.declared.Fault.the-variants.{Clear, At}
 use Rattle.refusals.specs.declared.Refusal.the-variants.{Index, Sheet}
 use Rattle.refusals.specs.Order.{when, orElse}
 use Rattle.general.specs.General.{scanTypes, channelSets, skewFields, within}
-use Rattle.sets.specs.Descriptors.{placeOf}
+use Rattle.sets.specs.Descriptors.{descriptorPlace}
 use Rattle.sets.specs.Samples.{samplesOf}
 use Rattle.header.specs.Faults.{headerFault}
 use Rattle.layout.specs.Indexes.{placeFault}
@@ -25,9 +25,9 @@ use Rattle.parts.specs.Parts.{partAfter}
 unfoldable pub source : {A : Type 0} → List ℕ → A → A → A
 source b block sheet = pick (eqb (skewFields b) 0) sheet block
 
--- the bytes there before those of scan type t: in the sheet "S/S bytes per scan type, in order", in the block all up to its CS descriptors
+-- the bytes there before those of scan type t: in the sheet "S/S bytes per scan type, in order", in the block all to the end of its CS descriptors
 unfoldable pub skewPlace : List ℕ → ℕ → ℕ
-skewPlace b t = source b (placeOf b t (channelSets b)) (t * samplesOf b t)
+skewPlace b t = source b (descriptorPlace b t (channelSets b)) (t * samplesOf b t)
 
 -- "sheet used, length not ST/R x S/S"; every scan type of an accepted header has the first one's S/S
 unfoldable pub sheetHolds : List ℕ → List ℕ → Bool

@@ -9,6 +9,7 @@ pub record Slice : Type 0 where
   pub pointer : ℕ × ℕ
   pub bytes : List ℕ
 
+-- the slice of a pointer and bytes
 abbrev pub slice : ℕ × ℕ → List ℕ → Slice
 slice pointer bytes = record { pointer = pointer; bytes = bytes }
 

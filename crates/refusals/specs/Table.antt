@@ -12,6 +12,7 @@ pub record Said : Type 0 where
   pub number : ℕ
   pub values : List ℕ
 
+-- the row of a number and values
 abbrev row : ℕ → List ℕ → Said
 row n vs = record { number = n; values = vs }
 

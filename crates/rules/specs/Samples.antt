@@ -11,16 +11,16 @@ use Rattle.basis.specs.Upto.{sumUpto}
 use Rattle.codes.specs.Codes.{perOf, leadOf, wordBytesOf}
 use Rattle.words.specs.declared.Value.{Value}
 use Rattle.words.specs.Words.{valueOf}
-use Rattle.layout.specs.Places.{groupPlace, wordPlace}
+use Rattle.layout.specs.Places.{groupPlaceOf, wordPlaceOf}
 use Rattle.rules.specs.Scans.{Shape}
 
 module _ (sh : Shape) (byte : ℕ → ℕ) where
-  -- the place in its scan of the group of sample k, and of its word, by the code's row
+  -- the place in its scan of the group of sample k, and of its word
   abbrev pub groupBegins : ℕ → ℕ
-  groupBegins = groupPlace (perOf (sh .code)) (leadOf (sh .code)) (wordBytesOf (sh .code))
+  groupBegins = groupPlaceOf (sh .code)
 
   abbrev pub wordBegins : ℕ → ℕ
-  wordBegins = wordPlace (perOf (sh .code)) (leadOf (sh .code)) (wordBytesOf (sh .code))
+  wordBegins = wordPlaceOf (sh .code)
 
   -- 1 where the last byte of sample k is among the first r of its scan
   abbrev pub doneIn : ℕ → ℕ → ℕ

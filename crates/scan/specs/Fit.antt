@@ -14,7 +14,7 @@ use Rattle.scan.specs.declared.Track.{Track}
 unfoldable pub wholeb : ℕ → ℕ → Bool
 wholeb scan code = ltb 0 (groupOf code) and eqb ((scan - 8) % groupOf code) 0
 
--- a multiplexed code; 4096 I of an I up to 128; ST/R 1 to 99; S/B x 2^S/BX up to 255 x 2^15
+-- a multiplexed code; an advance in the top three bytes, at most that of I 128; ST/R 1 to 99; S/B x 2^S/BX up to 255 x 2^15
 unfoldable pub limitsb : Shape → Bool
 limitsb h =
     ltb (h .code) 0x8000 && eqb (h .advance % 256) 0 && leb (h .advance) 524288 && leb 1 (h .types) && leb (h .types) 99 && leb (h .block) 8355840

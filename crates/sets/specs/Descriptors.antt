@@ -13,12 +13,12 @@ use Rattle.block.specs.Bytes.{upper, lower, pair, decimal, pairs}
 use Rattle.general.specs.General.{codeOf, scanTypes, channelSets, fieldsBefore}
 
 -- E6: the bytes before a descriptor, those of the general header, the scan types before and the sets before
-unfoldable pub placeOf : List ℕ → ℕ → ℕ → ℕ
-placeOf b t s = 32 * (1 + fieldsBefore b t + s)
+unfoldable pub descriptorPlace : List ℕ → ℕ → ℕ → ℕ
+descriptorPlace b t s = 32 * (1 + fieldsBefore b t + s)
 
 -- the block from a descriptor on, so that the descriptor's byte 1 is the first
 unfoldable pub descriptorAt : List ℕ → ℕ → ℕ → List ℕ
-descriptorAt b t s = drop (placeOf b t s) b
+descriptorAt b t s = drop (descriptorPlace b t s) b
 
 -- "9-10 channels"
 abbrev pub channelsIn : List ℕ → ℕ

@@ -3,7 +3,7 @@
 ghost use mathlib.Core.Path.{_≡_};
 ghost use Prim.Native.Nat.{_^_, _<_};
 ghost use Rattle.codes.specs.Codes.{perOf};
-ghost use Rattle.sets.specs.Descriptors.{placeOf, descriptorAt, descriptorHolds, fourHolds, setFault, scanTypeFault, descriptorsFault};
+ghost use Rattle.sets.specs.Descriptors.{descriptorPlace, descriptorAt, descriptorHolds, fourHolds, setFault, scanTypeFault, descriptorsFault};
 ghost use Rattle.sets.specs.Samples.{channelsOf, subscansOf, setSamples, samplesBefore, samplesOf};
 ghost use Rattle.sets.specs.ChannelSets.{quarters, channelSetIn, channelSetOf};
 use block::all_pairs;
@@ -41,7 +41,7 @@ pub struct ChannelSet {
 
 // E6: the bytes before a descriptor.
 fn place(b: &[u8], t: u8, s: u8) -> usize
-    ensures { λ r. ⌜ (r ≡ placeOf (now (b .entry)) t s) × (r < 2 ^ 28) ⌝ }
+    ensures { λ r. ⌜ (r ≡ descriptorPlace (now (b .entry)) t s) × (r < 2 ^ 28) ⌝ }
 {
     32 * (1 + general::fields_before(b, t) + s as u32) as usize
 }

@@ -12,8 +12,8 @@ read-word-requires c κs = search needs
 enum-known-answer : tie.Need-enum-known-answer
 enum-known-answer c = search needs
 
-clear-requires : tie.Need-clear-requires
-clear-requires c κs = search needs
+unrefused-requires : tie.Need-unrefused-requires
+unrefused-requires c κs = search needs
 
 flag-of-requires : tie.Need-flag-of-requires
 flag-of-requires c κs = search needs
@@ -25,7 +25,7 @@ tell-requires : tie.Need-tell-requires
 tell-requires c κs = search needs
 
 returns : tie.Need-returns
-returns c = let g = c .before .before .known-told .given in let v = c .before .before .before .answer .given .0 in rw (← c .before .before .before .before .before .read-word .ensures, c .before .before .before .answer .given .1, toZ-ofZ {w = w32} {z = v .0} (record { sfits = g .0 .1 }), toZ-ofZ {w = w32} {z = v .1 .0} (record { sfits = g .1 .0 .1 }), c .before .clear .ensures, c .flag-of .ensures)
+returns c = let g = c .before .before .known-told .given in let v = c .before .before .before .answer .given .0 in rw (← c .before .before .before .before .before .read-word .ensures, c .before .before .before .answer .given .1, toZ-ofZ {w = w32} {z = v .0} (record { sfits = g .0 .1 }), toZ-ofZ {w = w32} {z = v .1 .0} (record { sfits = g .1 .0 .1 }), c .before .unrefused .ensures, c .flag-of .ensures)
 
 returns-2 : tie.Need-returns-2
 returns-2 c = rw (← c .before .before .before .before .read-word .ensures, c .before .before .answer2 .given .1, c .tell .ensures)
@@ -36,7 +36,7 @@ segd-read-word-spec =
     (tie.spec
     read-word-requires
     enum-known-answer
-    clear-requires
+    unrefused-requires
     flag-of-requires
     enum-known-answer-2
     tell-requires

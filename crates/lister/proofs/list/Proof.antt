@@ -4,15 +4,15 @@ use mathlib.Core.Path.{_≡_}
 use lib.ListN.{length}
 use borrow.Author.Needs.{needs}
 use Rattle.lister.specs.Listing.{headerRoom}
-use Rattle.lister.specs.Listed.{lineRoom}
+use Rattle.listing.specs.Lent.{lineRoom}
 use Rattle.lister.proofs.list.Statement.{statement}
 use Rattle.lister.proofs.list.Tie as tie
 
 abbrev Inv-loop : tie.InvT-loop
-Inv-loop fd buf₀ header₀ numbers₀ line₀ tape₀ turns₀ buf header numbers line tape turns = (65536 ≡ length buf) × (headerRoom ≡ length header) × (131072 ≡ length numbers) × (lineRoom ≡ length line)
+Inv-loop fd buf₀ header₀ numbers₀ line₀ progress₀ turns₀ buf header numbers line progress turns = (65536 ≡ length buf) × (headerRoom ≡ length header) × (131072 ≡ length numbers) × (lineRoom ≡ length line)
 
 abbrev μ-loop : tie.MeasureT-loop
-μ-loop fd buf₀ header₀ numbers₀ line₀ tape₀ turns₀ buf header numbers line tape turns = turns
+μ-loop fd buf₀ header₀ numbers₀ line₀ progress₀ turns₀ buf header numbers line progress turns = turns
 
 large-buffer-requires : tie.Need-large-buffer-requires Inv-loop μ-loop
 large-buffer-requires c κs = search needs

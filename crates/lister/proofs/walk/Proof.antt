@@ -14,10 +14,10 @@ use Rattle.lister.proofs.walk.Statement.{statement}
 use Rattle.lister.proofs.walk.Tie as tie
 
 abbrev Inv-loop : tie.InvT-loop
-Inv-loop bytes header₀ numbers₀ line₀ tape₀ at₀ header numbers line tape at = (at ≤ length bytes) × (length header ≡ length header₀) × (length numbers ≡ length numbers₀) × (length line ≡ length line₀) × Onward (walked tape₀ bytes header₀ numbers₀ line₀) bytes header numbers line tape at
+Inv-loop bytes header₀ numbers₀ line₀ progress₀ at₀ header numbers line progress at = (at ≤ length bytes) × (length header ≡ length header₀) × (length numbers ≡ length numbers₀) × (length line ≡ length line₀) × Onward (walked progress₀ bytes header₀ numbers₀ line₀) bytes header numbers line progress at
 
 abbrev μ-loop : tie.MeasureT-loop
-μ-loop bytes header₀ numbers₀ line₀ tape₀ at₀ header numbers line tape at = length bytes - at
+μ-loop bytes header₀ numbers₀ line₀ progress₀ at₀ header numbers line progress at = length bytes - at
 
 loop-holds : tie.Need-loop-holds Inv-loop μ-loop
 loop-holds c = (search needs, search needs, search needs, search needs, record { out = []; left = rw sub-zero })
@@ -40,7 +40,7 @@ module _ (c : tie.After-print Inv-loop μ-loop) where
   goes =
       let l = from .loop in
       let e = ap (λ (r : Turn). r .to) (came .advance .ensures .0) in
-      let w = turn-forward (l .tape) (from .before .before .before .before .args .bytes .now) (l .at) (l .header) (l .numbers) (l .line) (search needs) in
+      let w = turn-forward (l .progress) (from .before .before .before .before .args .bytes .now) (l .at) (l .header) (l .numbers) (l .line) (search needs) in
       (omega (arith, e, w .0), omega (arith, e, w .1))
 
 loop-less : tie.Need-loop-less Inv-loop μ-loop
@@ -54,7 +54,7 @@ loop-again c =
       search needs,
       search needs,
       search needs,
-      on _ (from c .before .before .before .before .args .bytes .now) (l .header) (l .numbers) (l .line) (l .tape) (l .at) (l .inv .4) (search needs) (a .0) (a .1) (a .2) (a .3),
+      on _ (from c .before .before .before .before .args .bytes .now) (l .header) (l .numbers) (l .line) (l .progress) (l .at) (l .inv .4) (search needs) (a .0) (a .1) (a .2) (a .3),
     )
 
 same-length : tie.Need-same-length Inv-loop μ-loop
@@ -69,8 +69,8 @@ same-length-3 c = search needs
 returns : tie.Need-returns Inv-loop μ-loop
 returns c =
     let l = c .before .loop in
-    let e = ended _ (c .before .before .before .before .before .args .bytes .now) (l .header) (l .numbers) (l .line) (l .tape) (l .at) (l .inv .4) (search needs) in
-    (ap (λ (s : Lister). s .tape) e, ap (λ (s : Lister). s .header) e, ap (λ (s : Lister). s .numbers) e, ap (λ (s : Lister). s .line) e)
+    let e = ended _ (c .before .before .before .before .before .args .bytes .now) (l .header) (l .numbers) (l .line) (l .progress) (l .at) (l .inv .4) (search needs) in
+    (ap (λ (s : Lister). s .progress) e, ap (λ (s : Lister). s .header) e, ap (λ (s : Lister). s .numbers) e, ap (λ (s : Lister). s .line) e)
 
 pub walk-spec : {M : Type 1} → statement M
 walk-spec =

@@ -1,12 +1,9 @@
--- `listing::listed` meets its contract: three pieces, regrouped as the line has them.
+-- `listing::listed` meets its contract: three pieces one after another.
 -- Assumes nothing.
-use mathlib.Core.Path.{_≡_, _∙_}
-use mathlib.Core.List.{_++_, _∷_, []}
-use Rattle.listing.specs.declared.Outcome.the-variants.{Listed}
+use mathlib.Core.List.{_∷_, []}
 use native.Mathlib.Omega.{arith}
-use Rattle.io.specs.Digits.{digits}
-use Rattle.listing.specs.Lines.{decimalOf, ascii, namesOf, countsOf, lineOf}
-use Rattle.listing.proofs.Pieces.{three, regroup}
+use Rattle.listing.specs.Lines.{namesOf, countsOf}
+use Rattle.listing.proofs.Pieces.{three}
 use borrow.Author.Needs.{needs}
 use Rattle.listing.proofs.listed.Statement.{statement}
 use Rattle.listing.proofs.listed.Tie as tie
@@ -37,9 +34,7 @@ returns c =
     let q = c2 .put-counts .ensures in
     let r = c1 .put .ensures in
     let t = three (g .out .now) (namesOf (g .number) (g .file) (g .format)) (countsOf (g .scans) (g .samples) (g .off)) (10 ∷ []) 0 (p .0) (omega (arith, p .1)) (q .0) (q .1) (r .0) (r .1) in
-    let same : namesOf (g .number) (g .file) (g .format) ++ (countsOf (g .scans) (g .samples) (g .off) ++ (10 ∷ [])) ≡ lineOf (g .number) (Listed (g .file) (g .format) (g .scans) (g .samples) (g .off)) =
-    regroup (decimalOf (g .number)) (ascii " file ") (digits 10 4 (g .file)) (ascii " format ") (digits 16 4 (g .format)) (ascii " scans ") (decimalOf (g .scans)) (ascii " samples ") (decimalOf (g .samples)) (ascii " off ") (decimalOf (g .off)) (10 ∷ []) in
-    (t .0 ∙ rw same, rw (← same) (omega (arith, t .1)), omega (arith, p .2, q .2, r .1))
+    (t .0, omega (arith, t .1), omega (arith, p .2, q .2, r .1))
 
 pub listed-spec : {M : Type 1} → statement M
 listed-spec =

@@ -2,7 +2,7 @@
 -- Assumes nothing.
 use native.Mathlib.Omega.{arith}
 use borrow.Author.Needs.{needs}
-use Rattle.sets.specs.Descriptors.{placeOf}
+use Rattle.sets.specs.Descriptors.{descriptorPlace}
 use Rattle.parts.specs.Parts.{extendedPlace}
 use Rattle.parts.proofs.extended_place.Statement.{statement}
 use Rattle.parts.proofs.extended_place.Tie as tie
@@ -23,7 +23,7 @@ mul-result : tie.Need-mul-result
 mul-result c = search needs
 
 returns : tie.Need-returns
-unfolding extendedPlace placeOf
+unfolding extendedPlace descriptorPlace
 returns c = (rw (c .fields-before .ensures .0, c .before .pair-at .ensures .0) (omega arith), omega (arith, c .fields-before .ensures .1))
 
 pub extended-place-spec : {M : Type 1} → statement M

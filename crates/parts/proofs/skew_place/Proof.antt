@@ -6,7 +6,7 @@ use borrow.Author.Tests.{eq-eqb, ne-eqb}
 use borrow.Author.Needs.{needs}
 use Rattle.basis.specs.Choice.{pick}
 use Rattle.basis.proofs.Numbers.{product-lt}
-use Rattle.sets.specs.Descriptors.{placeOf}
+use Rattle.sets.specs.Descriptors.{descriptorPlace}
 use Rattle.parts.specs.Skews.{source, skewPlace}
 use Rattle.parts.proofs.skew_place.Statement.{statement}
 use Rattle.parts.proofs.skew_place.Tie as tie
@@ -49,7 +49,7 @@ mul-result-2 : tie.Need-mul-result-2
 mul-result-2 c = search needs
 
 returns-2 : tie.Need-returns-2
-unfolding skewPlace source pick placeOf
+unfolding skewPlace source pick descriptorPlace
 returns-2 c = (rw (← c .before .before .before .pair-at .ensures .0, ne-eqb _ _ (c .before .before .if1 .left), c .before .fields-before .ensures .0, c .pair-at2 .ensures .0, c .before .before .before .pair-at .ensures .0), omega (arith, c .before .fields-before .ensures .1, c .pair-at2 .ensures .1))
 
 pub skew-place-spec : {M : Type 1} → statement M

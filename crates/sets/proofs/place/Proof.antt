@@ -2,7 +2,7 @@
 -- Assumes nothing.
 use native.Mathlib.Omega.{arith}
 use borrow.Author.Needs.{needs}
-use Rattle.sets.specs.Descriptors.{placeOf}
+use Rattle.sets.specs.Descriptors.{descriptorPlace}
 use Rattle.sets.proofs.place.Statement.{statement}
 use Rattle.sets.proofs.place.Tie as tie
 
@@ -22,7 +22,7 @@ mul-result : tie.Need-mul-result
 mul-result c = search needs
 
 returns : tie.Need-returns
-unfolding placeOf
+unfolding descriptorPlace
 returns c = (rw (c .fields-before .ensures .0), omega (arith, c .fields-before .ensures .1))
 
 pub place-spec : {M : Type 1} → statement M

@@ -7,8 +7,8 @@ use Rattle.deck.proofs.bodies.gave.Tie as tie
 enum-known-answer : tie.Need-enum-known-answer
 enum-known-answer c = search needs
 
-clear-requires : tie.Need-clear-requires
-clear-requires c κs = search needs
+unrefused-requires : tie.Need-unrefused-requires
+unrefused-requires c κs = search needs
 
 enum-known-answer-2 : tie.Need-enum-known-answer-2
 enum-known-answer-2 c = search needs
@@ -23,7 +23,7 @@ tell-requires-2 : tie.Need-tell-requires-2
 tell-requires-2 c κs = search needs
 
 returns : tie.Need-returns
-returns c = rw (c .before .before .answer .given .1, c .clear .ensures)
+returns c = rw (c .before .before .answer .given .1, c .unrefused .ensures)
 
 returns-2 : tie.Need-returns-2
 returns-2 c = rw (c .before .before .answer2 .given .1, c .tell .ensures)
@@ -36,7 +36,7 @@ gave-spec =
     tie.close
     (tie.spec
     enum-known-answer
-    clear-requires
+    unrefused-requires
     enum-known-answer-2
     tell-requires
     enum-known-answer-3

@@ -7,8 +7,8 @@ use Rattle.deck.proofs.bodies.why.Tie as tie
 enum-told : tie.Need-enum-told
 enum-told c = search needs
 
-clear-requires : tie.Need-clear-requires
-clear-requires c κs = search needs
+unrefused-requires : tie.Need-unrefused-requires
+unrefused-requires c κs = search needs
 
 enum-known-answer : tie.Need-enum-known-answer
 enum-known-answer c = search needs
@@ -17,11 +17,11 @@ tell-requires : tie.Need-tell-requires
 tell-requires c κs = search needs
 
 returns : tie.Need-returns
-returns c = rw (c .before .enum-told .given .1, c .clear .ensures)
+returns c = rw (c .before .enum-told .given .1, c .unrefused .ensures)
 
 returns-2 : tie.Need-returns-2
 returns-2 c = rw (c .before .before .answer .given .1, c .tell .ensures)
 
 pub why-spec : {M : Type 1} → statement M
 why-spec =
-    tie.close (tie.spec enum-told clear-requires enum-known-answer tell-requires returns returns-2)
+    tie.close (tie.spec enum-told unrefused-requires enum-known-answer tell-requires returns returns-2)

@@ -10,8 +10,8 @@ sample-index-requires c κs = search needs
 enum-known-answer : tie.Need-enum-known-answer
 enum-known-answer c = search needs
 
-clear-requires : tie.Need-clear-requires
-clear-requires c κs = search needs
+unrefused-requires : tie.Need-unrefused-requires
+unrefused-requires c κs = search needs
 
 enum-known-answer-2 : tie.Need-enum-known-answer-2
 enum-known-answer-2 c = search needs
@@ -20,7 +20,7 @@ tell-requires : tie.Need-tell-requires
 tell-requires c κs = search needs
 
 returns : tie.Need-returns
-returns c = rw (← c .before .before .before .before .sample-index .ensures, c .before .before .answer .given .1, c .clear .ensures)
+returns c = rw (← c .before .before .before .before .sample-index .ensures, c .before .before .answer .given .1, c .unrefused .ensures)
 
 returns-2 : tie.Need-returns-2
 returns-2 c = rw (← c .before .before .before .before .sample-index .ensures, c .before .before .answer2 .given .1, c .tell .ensures)
@@ -31,7 +31,7 @@ segd-sample-index-spec =
     (tie.spec
     sample-index-requires
     enum-known-answer
-    clear-requires
+    unrefused-requires
     enum-known-answer-2
     tell-requires
     returns

@@ -26,8 +26,8 @@ pair-at-requires c κs = search needs
 samples-before-requires : tie.Need-samples-before-requires
 samples-before-requires c κs = search needs
 
-clear-requires : tie.Need-clear-requires
-clear-requires c κs = search needs
+unrefused-requires : tie.Need-unrefused-requires
+unrefused-requires c κs = search needs
 
 pair-at-requires-2 : tie.Need-pair-at-requires-2
 pair-at-requires-2 c κs = search needs
@@ -46,7 +46,7 @@ tell-requires c κs = search needs
 
 returns : tie.Need-returns
 unfolding samplesOf
-returns c = rw (← c .before .before .before .before .before .before .before .before .skew-fault .ensures, c .before .before .before .before .before .before .enum-told .given .1, c .before .before .before .clear .ensures, c .before .flag-of .ensures, c .before .before .pair-at2 .ensures .0, c .skew-place .ensures .0, c .before .before .before .before .samples-before .ensures .0, c .before .before .before .before .before .pair-at .ensures .0)
+returns c = rw (← c .before .before .before .before .before .before .before .before .skew-fault .ensures, c .before .before .before .before .before .before .enum-told .given .1, c .before .before .before .unrefused .ensures, c .before .flag-of .ensures, c .before .before .pair-at2 .ensures .0, c .skew-place .ensures .0, c .before .before .before .before .samples-before .ensures .0, c .before .before .before .before .before .pair-at .ensures .0)
 
 returns-2 : tie.Need-returns-2
 returns-2 c = rw (← c .before .before .before .before .skew-fault .ensures, c .before .before .fault .given .1, c .tell .ensures)
@@ -61,7 +61,7 @@ segd-skew-spec =
     cast-t
     pair-at-requires
     samples-before-requires
-    clear-requires
+    unrefused-requires
     pair-at-requires-2
     flag-of-requires
     skew-place-requires
