@@ -77,7 +77,7 @@ module _ (s : State) (f : fitb s ≡ true) where
   unfolding K.answered pick
   on-answer t n m e = rw e (go (eqb (t .stop) 0))
     where
-      go : (b : Bool) → pick b (A.GoingOn (n / 2)) (A.Stopped (n / 2) (K.stopOf (t .stop) (t .stopat))) ≡ answerFrom Clear (pick b Clear (At (K.stopOf (t .stop) (t .stopat)))) (n / 2)
+      go : (b : Bool) → pick b (A.GoingOn (n / 2)) (A.Stopped (n / 2) (K.stopRefusal (t .stop) (t .stopat))) ≡ answerFrom Clear (pick b Clear (At (K.stopRefusal (t .stop) (t .stopat)))) (n / 2)
       go true = refl
       go false = refl
 
@@ -120,7 +120,7 @@ module _ (s : State) (f : fitb s ≡ true) where
           rw q (off-room z)
 
   pub end-answer : N.blockEnd s .answer ≡ answerFrom (stopIn s) (stopIn (N.blockEnd s .state)) 0
-  unfolding N.oneEnd S.halted K.stopOf pick
+  unfolding N.oneEnd S.halted K.stopRefusal pick
   end-answer = go (eqb (s .stop) 0) (dueIn s) refl refl
     where
       go : (t u : Bool) → eqb (s .stop) 0 ≡ t → dueIn s ≡ u → N.blockEnd s .answer ≡ answerFrom (stopIn s) (stopIn (N.blockEnd s .state)) 0

@@ -83,8 +83,8 @@ numbered sync = refl
 numbered timing = refl
 numbered phase = refl
 
-again : {p : ℕ} {r : Refusal} → Halts p r → K.stopOf (said r .number) p ≡ r
-unfolding K.stopOf pick
+again : {p : ℕ} {r : Refusal} → Halts p r → K.stopRefusal (said r .number) p ≡ r
+unfolding K.stopRefusal pick
 again long = refl
 again block = refl
 again sync = refl
@@ -96,7 +96,7 @@ same-at e = cc
 
 -- the stop that a state keeps
 abbrev pub stopIn : State → Fault
-stopIn s = pick (eqb (s .stop) 0) Clear (At (K.stopOf (s .stop) (s .stopat)))
+stopIn s = pick (eqb (s .stop) 0) Clear (At (K.stopRefusal (s .stop) (s .stopat)))
 
 -- ---- the closing answer
 itb-told : (sh : Shape) (byte : ℕ → ℕ) (n : ℕ) → 0 < n → I.Bit (itbs (firstItb sh byte n)) ≡ itbOf (firstItb sh byte n)

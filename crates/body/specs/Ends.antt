@@ -20,7 +20,7 @@ use Rattle.body.specs.declared.Window.the-variants as W
 use Rattle.body.specs.declared.Report.{Report}
 use Rattle.body.specs.declared.Closed.the-variants as C
 use Rattle.body.specs.declared.Closing.{Closing}
-use Rattle.stream.specs.Calls.{stopOf, answered, unchanged}
+use Rattle.stream.specs.Calls.{stopRefusal, answered, unchanged}
 
 -- "a block end is due after each": after some scans and `part` bytes of the next; a body of one block ends once
 unfoldable pub due : ℕ → ℕ → ℕ → ℕ → Bool
@@ -97,7 +97,7 @@ finish s =
     (pick (ltb (s .track .seen) (s .shape .types)) (refused R.Missing) (record { answer = C.Whole; report = tally s }))
     (refused R.Open))
     (refused R.Part))
-    (refused (stopOf (s .stop) (s .stopat)))
+    (refused (stopRefusal (s .stop) (s .stopat)))
 
 -- STATE comes first
 unfoldable pub close : State → Closing

@@ -10,7 +10,7 @@ use scan::State;
 use scan::Track;
 use stream::Answer;
 use stream::Gave;
-use stream::stop_of;
+use stream::stop_refusal;
 ghost use mathlib.Core.Path.{_≡_};
 ghost use Prim.Native.Nat.{_*_, _≤_, _<_};
 ghost use Rattle.codes.specs.Codes.{groupOf};
@@ -51,7 +51,7 @@ pub(crate) fn end(s: State) -> Gave
             state: t,
             answer: Answer::Stopped {
                 samples: 0,
-                refusal: stop_of(s.stop, s.stopat),
+                refusal: stop_refusal(s.stop, s.stopat),
             },
         };
     }
@@ -162,7 +162,7 @@ pub(crate) fn finish(s: State) -> Closing
     ensures { λ r. ⌜ r ≡ Ends.finish s ⌝ }
 {
     if s.stop != 0 {
-        return refused(stop_of(s.stop, s.stopat));
+        return refused(stop_refusal(s.stop, s.stopat));
     }
     if s.place % s.shape.scan != 0 {
         return refused(Refusal::Part);

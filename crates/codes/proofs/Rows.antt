@@ -15,7 +15,7 @@ use Rattle.basis.proofs.Tables.{every}
 use Rattle.codes.specs.declared.Row.{Row}
 use Rattle.codes.specs.declared.Found.{Found}
 use Rattle.codes.specs.declared.Found.the-variants.{At, Nothing}
-use Rattle.codes.specs.Codes.{findIn, table, rowOf, Fit, soundRow, groupIn, groupOf, perIn, perOf, leadIn, leadOf, wordBytesIn, wordBytesOf, bitsOf, ofRow}
+use Rattle.codes.specs.Codes.{findIn, table, rowOf, SoundRow, soundRow, groupIn, groupOf, perIn, perOf, leadIn, leadOf, wordBytesIn, wordBytesOf, bitsOf, ofRow}
 
 -- what the groups of a code are: none, a word of one, two or four bytes, or ten bytes of four samples
 pub data Groups (group per lead word bits : ℕ) : Type 0 where
@@ -62,7 +62,7 @@ unfolding rowOf
 row-code code r e = found-code table code r e
 
 -- a row that passes the test fits, and each of the table does
-pub sound-fit : (r : Row) → soundRow r ≡ true → Fit r
+pub sound-fit : (r : Row) → soundRow r ≡ true → SoundRow r
 unfolding soundRow
 sound-fit r e =
     let a = and-true _ (leb (r .bias) 64) e in
@@ -89,7 +89,7 @@ pub row-sound : (code : ℕ) (r : Row) → rowOf code ≡ At r → soundRow r �
 unfolding rowOf findIn table soundRow
 row-sound code r e = is-true (soundRow r) (holds soundRow table code r tt e)
 
-pub fit : (code : ℕ) (r : Row) → rowOf code ≡ At r → Fit r
+pub fit : (code : ℕ) (r : Row) → rowOf code ≡ At r → SoundRow r
 fit code r e = sound-fit r (row-sound code r e)
 
 -- a row's groups, as one test

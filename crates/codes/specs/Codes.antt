@@ -47,7 +47,7 @@ abbrev pub demultiplexed : ℕ → Bool
 demultiplexed code = leb 0x8000 code
 
 -- what every row of the table keeps to: the bits of its parts fit its width, and its numbers are small
-pub record Fit (r : Row) : Type 0 where
+pub record SoundRow (r : Row) : Type 0 where
   pub whole : 1 + r .exponent + r .fraction ≤ r .width
   pub narrow : r .width ≤ 32
   pub inside : r .apart ≤ r .exponent

@@ -13,7 +13,7 @@ use Rattle.basis.specs.Choice.{pick}
 use Rattle.basis.proofs.FieldLaws.{last-back, fraction-back, exponent-back, sign-back, rejoined}
 use Rattle.values.proofs.Laws.{same-refl, same-sym, same-trans, same-shift, same-tested, same-told, less-tested, less-told, less-irrefl, less-trans, same-less, less-level, total}
 use Rattle.codes.specs.declared.Row.{Row}
-use Rattle.codes.specs.Codes.{Fit}
+use Rattle.codes.specs.Codes.{SoundRow}
 use Rattle.codes.proofs.Rows.{fit}
 use Rattle.refusals.specs.declared.Refusal.the-variants.{Index, Sheet}
 use Rattle.refusals.specs.declared.Fault.{Fault}
@@ -148,13 +148,13 @@ time-asked b sheet t k T time e =
     (askable b sheet t k (p .0) (q .1), ltb-true T (2 ^ 24) (was (ltb T (2 ^ 24)) Index (q .0)), g .1)
 
 -- a row's own widths add up to its word's
-widths : (r : Row) → Fit r → r .width - r .apart ≡ 1 + (spareOf r + r .fraction + (r .exponent - r .apart))
+widths : (r : Row) → SoundRow r → r .width - r .apart ≡ 1 + (spareOf r + r .fraction + (r .exponent - r .apart))
 widths r f = omega (arith, f .whole, f .inside)
 
-place-of-sign : (r : Row) → Fit r → r .width - r .apart - 1 ≡ spareOf r + r .fraction + (r .exponent - r .apart)
+place-of-sign : (r : Row) → SoundRow r → r .width - r .apart - 1 ≡ spareOf r + r .fraction + (r .exponent - r .apart)
 place-of-sign r f = omega (arith, f .whole, f .inside)
 
-cut-in : (r : Row) → Fit r → Cut r
+cut-in : (r : Row) → SoundRow r → Cut r
 cut-in r f =
     record {
       cut = λ word h. rw (place-of-sign r f, zero-add) (rejoined (r .exponent - r .apart) (r .fraction) (spareOf r) word (subst (λ (n : ℕ). word < 2 ^ n) (widths r f) h));

@@ -18,7 +18,7 @@ use Rattle.scan.specs.Fit.{fitb}
 use Rattle.scan.specs.Step.{after, wrote, halted}
 use Rattle.stream.specs.declared.Gave.{Gave}
 use Rattle.stream.specs.declared.Answer.the-variants.{GoingOn, Stopped}
-use Rattle.stream.specs.Calls.{portion, taken, fed, written, kept, answered, unchanged, stopOf}
+use Rattle.stream.specs.Calls.{portion, taken, fed, written, kept, answered, unchanged, stopRefusal}
 use Rattle.body.specs.Ends.{blockEnd, ended, oneEnd, due, close, finish, refused}
 use Rattle.stream.proofs.Cuts.{portion-fit}
 use Rattle.body.proofs.BlockEnds.{end-fit}
@@ -26,7 +26,7 @@ use Rattle.agree.specs.Calls.{Call, put, end, readOn}
 use Rattle.demands.specs.Demand1.{SameStop, stands}
 
 module _ (s : State) (f : fitb s ≡ true) (n : s .stop ≡ 0 → ⊥) where
-  portions : (bs : List ℕ) (room : ℕ) → portion s bs room ≡ stands s (stopOf (s .stop) (s .stopat))
+  portions : (bs : List ℕ) (room : ℕ) → portion s bs room ≡ stands s (stopRefusal (s .stop) (s .stopat))
   unfolding portion taken answered pick
   portions bs room = rw (f, ne-eqb (s .stop) 0 n)
 
@@ -34,11 +34,11 @@ module _ (s : State) (f : fitb s ≡ true) (n : s .stop ≡ 0 → ⊥) where
   unfolding written kept pick
   nothing bs room = rw (f, ne-eqb (s .stop) 0 n)
 
-  ends : blockEnd s ≡ stands s (stopOf (s .stop) (s .stopat))
+  ends : blockEnd s ≡ stands s (stopRefusal (s .stop) (s .stopat))
   unfolding blockEnd ended answered pick
   ends = rw (f, ne-eqb (s .stop) 0 n)
 
-  closes : close s ≡ refused (stopOf (s .stop) (s .stopat))
+  closes : close s ≡ refused (stopRefusal (s .stop) (s .stopat))
   unfolding close finish pick
   closes = rw (f, ne-eqb (s .stop) 0 n)
 
@@ -47,15 +47,15 @@ module _ (s : State) (f : fitb s ≡ true) (n : s .stop ≡ 0 → ⊥) where
   forever w (put bs room ∷ cs) = rw (portions bs room, nothing bs room, append-nil w) (forever w cs)
   forever w (end ∷ cs) = rw ends (forever w cs)
 
-  pub stays : SameStop s (stopOf (s .stop) (s .stopat))
+  pub stays : SameStop s (stopRefusal (s .stop) (s .stopat))
   stays = record { portions = portions; written = nothing; blockEnds = ends; closes = closes; forever = forever }
 
 -- what an answer that stops says is what the state then keeps
 abbrev Told : ℕ → Refusal → Gave → Type 0
-Told n r g = g .answer ≡ Stopped n r → (g .state .stop ≡ 0 → ⊥) × (r ≡ stopOf (g .state .stop) (g .state .stopat))
+Told n r g = g .answer ≡ Stopped n r → (g .state .stop ≡ 0 → ⊥) × (r ≡ stopRefusal (g .state .stop) (g .state .stopat))
 
 by-answer : (s : State) (m n : ℕ) (r : Refusal) (t : Bool) → eqb (s .stop) 0 ≡ t
-    → pick t (GoingOn m) (Stopped m (stopOf (s .stop) (s .stopat))) ≡ Stopped n r → (s .stop ≡ 0 → ⊥) × (r ≡ stopOf (s .stop) (s .stopat))
+    → pick t (GoingOn m) (Stopped m (stopRefusal (s .stop) (s .stopat))) ≡ Stopped n r → (s .stop ≡ 0 → ⊥) × (r ≡ stopRefusal (s .stop) (s .stopat))
 unfolding pick
 by-answer s m n r true z e = let q : _≡_ {A = ℕ} 0 1 = cc in absurd (omega arith)
 by-answer s m n r false z e = (λ p. let q : _≡_ {A = Bool} true false = sym (eq-eqb (s .stop) 0 p) ∙ z in subst T q tt, cc)
@@ -75,7 +75,7 @@ portion-told s bs room n r =
     (told-off s refusal.State n r)
 
 end-told : (s : State) (n : ℕ) (r : Refusal) → Told n r (blockEnd s)
-unfolding blockEnd ended oneEnd halted stopOf pick
+unfolding blockEnd ended oneEnd halted stopRefusal pick
 end-told s n r =
     pick-both (Told n r) (fitb s)
     (pick-both (Told n r) (eqb (s .stop) 0)

@@ -11,7 +11,7 @@ use Rattle.codes.proofs.group.Reads as codes-group
 use Rattle.codes.proofs.bits.Reads as codes-bits
 use Rattle.words.proofs.read_word.Reads as words-read-word
 use Rattle.words.proofs.read.Reads as words-read
-use Rattle.words.proofs.by_byte.Reads as words-by-byte
+use Rattle.words.proofs.off_byte.Reads as words-off-byte
 use Rattle.words.proofs.by_entry.Reads as words-by-entry
 use Rattle.words.proofs.value15.Reads as words-value15
 use Rattle.words.proofs.value24.Reads as words-value24
@@ -59,7 +59,7 @@ use Rattle.runs.proofs.words44.Reads as runs-words44
 use Rattle.runs.proofs.words48.Reads as runs-words48
 use Rattle.runs.proofs.groups15.Reads as runs-groups15
 use Rattle.body.proofs.open.Reads as body-open
-use Rattle.stream.proofs.stop_of.Reads as stream-stop-of
+use Rattle.stream.proofs.stop_refusal.Reads as stream-stop-refusal
 use Rattle.stream.proofs.portion.Reads as stream-portion
 use Rattle.body.proofs.block_end.Reads as body-block-end
 use Rattle.body.proofs.close.Reads as body-close
@@ -100,7 +100,7 @@ pub record Unique : Type 0 where
   pub bits : OneAnswer codes-bits.Post
   pub read-word : OneAnswer words-read-word.Post
   pub read : OneAnswer words-read.Post
-  pub by-byte : OneAnswer words-by-byte.Post
+  pub off-byte : OneAnswer words-off-byte.Post
   pub by-entry : OneAnswer words-by-entry.Post
   pub value15 : OneAnswer words-value15.Post
   pub value24 : OneAnswer words-value24.Post
@@ -143,7 +143,7 @@ pub record Unique : Type 0 where
   pub sample-time : OneAnswer parts-sample-time.Post
   pub fit : OneAnswer scan-fit.Post
   pub bytes-by : OneAnswer runs-bytes-by.Post
-  pub bytes-by-content : OneContent runs-bytes-by.Post (λ κ e. e .1 .1 .0 .now)
+  pub bytes-by-content : OneContent runs-bytes-by.Post (λ κ e. e .1 .1 .1 .0 .now)
   pub words24 : OneAnswer runs-words24.Post
   pub words24-content : OneContent runs-words24.Post (λ κ e. e .1 .0 .now)
   pub words44 : OneAnswer runs-words44.Post
@@ -153,7 +153,7 @@ pub record Unique : Type 0 where
   pub groups15 : OneAnswer runs-groups15.Post
   pub groups15-content : OneContent runs-groups15.Post (λ κ e. e .1 .0 .now)
   pub body-open : OneAnswer body-open.Post
-  pub stop-of : OneAnswer stream-stop-of.Post
+  pub stop-refusal : OneAnswer stream-stop-refusal.Post
   pub portion : OneAnswer stream-portion.Post
   pub portion-content : OneContent stream-portion.Post (λ κ e. e .1 .1 .0 .now)
   pub block-end : OneAnswer body-block-end.Post

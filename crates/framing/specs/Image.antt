@@ -4,9 +4,9 @@ use Prim.Native.Nat.{ℕ, zero, suc}
 use mathlib.Core.Bool.{Bool, true, false}
 use mathlib.Core.List.{List, [], _∷_}
 use lib.Dec.{leb, ltb, eqb}
-use lib.ListN.{length, take, drop, getD}
+use lib.ListN.{length, take, drop}
 use Rattle.basis.specs.Choice.{pick}
-use Rattle.basis.specs.Digits.{written}
+use Rattle.basis.specs.Digits.{written, byteIn}
 use Rattle.framing.specs.declared.Ending.{Ending}
 use Rattle.framing.specs.declared.Ending.the-variants.{Ok, Cut, Version}
 
@@ -24,13 +24,9 @@ ends bytes e = record { items = []; tail = bytes; ending = e }
 abbrev pub then : List ℕ → Reading → Reading
 then item r = record { items = item ∷ r .items; tail = r .tail; ending = r .ending }
 
--- byte i, from 0; 0 past the end
-abbrev byteOf : List ℕ → ℕ → ℕ
-byteOf bytes i = getD bytes i 0
-
 -- "a four-byte big-endian length", at the start of the bytes
 unfoldable pub lengthOf : List ℕ → ℕ
-lengthOf bytes = written 256 (byteOf bytes) 0 4
+lengthOf bytes = written 256 (byteIn bytes) 0 4
 
 -- "Length 0 is a file mark; two in a row end the reel, and later bytes are ignored": what a length n says of the bytes after it,
 -- where `marked` says whether a mark stands right before it, and `later` is what follows after a mark or after none

@@ -15,7 +15,7 @@ use Rattle.rules.specs.Outcome.{Closing, refused, report}
 use Rattle.body.specs.declared.Closed.{Closed}
 use Rattle.body.specs.declared.Closed.the-variants as C
 use Rattle.body.specs.declared.Closing as B
-use Rattle.stream.specs.Calls.{stopOf}
+use Rattle.stream.specs.Calls.{stopRefusal}
 use Rattle.body.specs.Ends as N
 use Rattle.agree.specs.Answers as G
 use Rattle.listing.specs.declared.Outcome.the-variants as O
@@ -48,12 +48,12 @@ module _ (x y p : ℕ) where
   unfolding pick
   phase = record { is = refl }
 
-  stop-place : (n : ℕ) → Fixed x y (stopOf n p)
-  unfolding stopOf
+  stop-place : (n : ℕ) → Fixed x y (stopRefusal n p)
+  unfolding stopRefusal
   stop-place n =
       pick-both (Fixed x y) _ long (pick-both (Fixed x y) _ block (pick-both (Fixed x y) _ sync (pick-both (Fixed x y) _ timing phase)))
 
-stopped : (s : State) → fitb s ≡ true → eqb (s .stop) 0 ≡ false → N.close s ≡ N.refused (stopOf (s .stop) (s .stopat))
+stopped : (s : State) → fitb s ≡ true → eqb (s .stop) 0 ≡ false → N.close s ≡ N.refused (stopRefusal (s .stop) (s .stopat))
 unfolding N.close N.finish pick
 stopped s f u = rw (f, u)
 
@@ -80,7 +80,7 @@ closing-line n file format s bytes (refused r) e f p = go (eqb (s .stop) 0) refl
     place : (t : Bool) → eqb (s .stop) 0 ≡ t → placeOf r (s .place) ≡ placeOf r bytes
     place true u = ap (placeOf r) (p (eqb-true (s .stop) 0 u))
     place false u =
-        let k : r ≡ stopOf (s .stop) (s .stopat) = same-refusal r (stopOf (s .stop) (s .stopat)) (sym e ∙ stopped s f u) in
+        let k : r ≡ stopRefusal (s .stop) (s .stopat) = same-refusal r (stopRefusal (s .stop) (s .stopat)) (sym e ∙ stopped s f u) in
         rw k (stop-place (s .place) bytes (s .stopat) (s .stop) .is)
 
     go : (t : Bool) → eqb (s .stop) 0 ≡ t → lineOf n (closedOf file format s) ≡ lineOf n (O.Refused r bytes)

@@ -1,7 +1,7 @@
 -- What each loop over words keeps, and where it ends: one law, over the value of word k.
 -- Assumes nothing.
 use Prim.Native.Nat.{ℕ, zero, suc, min, _+_, _-_, _*_, _/_, _≤_, _<_}
-use mathlib.Core.Path.{_≡_, refl, _∙_}
+use mathlib.Core.Path.{_≡_, refl, sym, _∙_}
 use mathlib.Core.List.{List, [], _∷_, _++_}
 use native.Mathlib.Nat.{min-le-left, min-le-right}
 use native.Mathlib.Omega.{arith}
@@ -68,7 +68,7 @@ done-none f a n out e =
       back = refl;
     }
 
-offs-low : (f : ℕ → Value) (n : ℕ) → offs f n ≤ n
+pub offs-low : (f : ℕ → Value) (n : ℕ) → offs f n ≤ n
 unfolding offs upto
 offs-low f zero = omega arith
 offs-low f (suc n) = omega (arith, offs-low f n, one-low (f n))
@@ -157,6 +157,18 @@ module _ {f : ℕ → Value} {a n : ℕ} {out₀ out : List ℤ} {off k : ℕ} (
   done-all h =
       let e : n ≡ k = omega (arith, d .within) in
       rw e done-far
+
+  -- their off-rule words, counted apart
+  pub done-told : n ≤ k → {t : ℕ} → t ≡ offs f n → t ≡ off
+  done-told h e = e ∙ sym (done-all h .0)
+
+-- off-rule words counted apart: as many as there are, at each turn of the loop
+pub done-zero : (f : ℕ → Value) (a n : ℕ) (out : List ℤ) → n ≡ min a (length out / 2) → Done f a n out out (offs f 0) 0
+unfolding offs upto
+done-zero f a n out e = done-none f a n out e
+
+pub done-next : {f : ℕ → Value} {a n : ℕ} {out₀ out : List ℤ} {k : ℕ} → Done f a n out₀ out (offs f k) k → k < n → {x : Value} → x ≡ f k → Done f a n out₀ (set (set out (2 * k) (x .m)) (2 * k + 1) (x .x)) (offs f (k + 1)) (k + 1)
+done-next {f} {k = k} d h ex = done-more d h ex (rw ex (offs-more f k))
 
 -- the four words of a group more
 pub done-four : {f : ℕ → Value} {a n : ℕ} {out₀ out : List ℤ} {off g : ℕ} → Done f a n out₀ out off (4 * g) → g < n / 4

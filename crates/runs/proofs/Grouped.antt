@@ -4,10 +4,10 @@ use Prim.Native.Nat.{ℕ, _+_, _-_, _*_, _/_, _%_, _^_, _<_}
 use mathlib.Core.Path.{_≡_}
 use mathlib.Core.List.{List}
 use native.Mathlib.Omega.{arith}
-use Rattle.basis.specs.Digits.{written}
+use Rattle.basis.specs.Digits.{written, byteIn}
 use Rattle.basis.specs.Fields.{field}
 use Rattle.words.specs.Words.{valueOf}
-use Rattle.runs.specs.Words.{byteIn, groupExponent, groupWord, groupedValue}
+use Rattle.runs.specs.Words.{groupExponent, groupWord, groupedValue}
 
 pub group-value : (bs : List ℕ) (g j : ℕ) → j < 4
     → valueOf 0x0015 (written 256 (byteIn bs) (10 * g) 2 / 2 ^ (12 - 4 * j) % 16) (written 256 (byteIn bs) (10 * g + 2 + 2 * j) 2) ≡ groupedValue 0x0015 bs (4 * g + j)

@@ -1,12 +1,14 @@
 -- What a run over whole words comes to, whatever their code.
 -- Assumes nothing.
-use Prim.Native.Nat.{ℕ, min, _*_, _/_}
+use Prim.Native.Nat.{ℕ, min, _+_, _*_, _/_}
+use mathlib.Core.Path.{_≡_}
 use mathlib.Core.List.{List, [], _∷_, _++_}
 use lib.IntN.{ℤ}
 use lib.ListN.{length, drop}
 use Rattle.basis.specs.Choice.{pick}
 use Rattle.basis.specs.Upto.{sumUpto, listUpto}
 use Rattle.words.specs.declared.Value.{Value}
+use Rattle.runs.specs.Words.{tableValue}
 use Rattle.runs.specs.declared.Ran.{Ran}
 
 -- 1 for an off-rule word
@@ -20,6 +22,10 @@ offAt f k = offOne (f k)
 -- the off-rule words among the first n
 unfoldable pub offs : (ℕ → Value) → ℕ → ℕ
 offs f n = sumUpto (offAt f) n
+
+-- t of the words of one byte from k to e are off rule, whatever the table that gives M and X
+pub record Between (code : ℕ) (bs : List ℕ) (k e t : ℕ) : Type 0 where
+  pub counts : (xs : List ℕ) → offs (tableValue code xs bs) e ≡ offs (tableValue code xs bs) k + t
 
 -- M and X of word k
 abbrev both : (ℕ → Value) → ℕ → List ℤ

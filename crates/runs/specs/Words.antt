@@ -2,25 +2,24 @@
 -- Assumes nothing.
 use Prim.Native.Nat.{ℕ, _+_, _-_, _*_, _/_, _%_}
 use mathlib.Core.List.{List}
-use lib.IntN.{ℤ}
-use lib.ListN.{getD}
-use Rattle.basis.specs.Digits.{written}
+use Rattle.basis.specs.Choice.{pick}
+use Rattle.basis.specs.Digits.{written, byteIn}
 use Rattle.basis.specs.Fields.{field}
 use Rattle.words.specs.declared.Value.{Value}
 use Rattle.words.specs.Words.{valued, valueOf}
-use Rattle.words.specs.Entries.{spelled}
-
--- byte i, from 0; 0 past the end
-abbrev pub byteIn : List ℕ → ℕ → ℕ
-byteIn bs i = getD bs i 0
+use Rattle.words.specs.Entries.{offByte, tabled}
 
 -- a word of w bytes, of a code whose words stand alone
 unfoldable pub plainValue : ℕ → ℕ → List ℕ → ℕ → Value
 plainValue code w bs k = valueOf code 0 (written 256 (byteIn bs) (w * k) w)
 
--- a word of one byte, by a table spelled out
-unfoldable pub tableValue : List ℤ → List ℕ → ℕ → Value
-tableValue ts bs k = valued (spelled ts 0 (byteIn bs k))
+-- a word of one byte, of a code, by a table
+unfoldable pub tableValue : ℕ → List ℕ → List ℕ → ℕ → Value
+tableValue code xs bs k = valued (tabled code xs 0 (byteIn bs k))
+
+-- 1 for a word of one byte that is off rule
+unfoldable pub byteOne : ℕ → ℕ → ℕ
+byteOne code b = pick (offByte code b) 1 0
 
 -- groups of 0015, of ten bytes: "four c of 4 bits, then four of S Q14 0"; the exponent of word k
 unfoldable pub groupExponent : List ℕ → ℕ → ℕ

@@ -1,10 +1,10 @@
 // Whole sample words, read one after another: a loop for each code, whose decoder is made of constants.
 ghost use mathlib.Core.Path.{_≡_};
-ghost use Prim.Native.Nat.{min, _+_, _*_, _/_, _%_, _<_};
+ghost use Prim.Native.Nat.{min, _+_, _*_, _/_, _%_, _≤_, _<_};
 ghost use lib.ListN.{length, set};
-ghost use Rattle.basis.specs.Digits.{written};
-ghost use Rattle.runs.specs.Words.{byteIn, groupExponent, groupWord, tableValue, plainValue, groupedValue};
-ghost use Rattle.runs.specs.Runs.{offOne, offs, numbers, over, ran, filled};
+ghost use Rattle.basis.specs.Digits.{written, byteIn};
+ghost use Rattle.runs.specs.Words.{byteOne, groupExponent, groupWord, tableValue, plainValue, groupedValue};
+ghost use Rattle.runs.specs.Runs.{offOne, offs, Between, numbers, over, ran, filled};
 use words::Value;
 
 // What a run came to: the samples that it wrote, and how many of their words are off rule.
@@ -76,7 +76,7 @@ fn swapped4(w: u32) -> u32
 }
 
 // The two bytes from i on.
-fn pair(bytes: &[u8], i: usize) -> u16
+fn big2(bytes: &[u8], i: usize) -> u16
     requires { ⌜ i + 1 < length (now bytes) ⌝ }
     ensures { λ r. ⌜ r ≡ written 256 (byteIn (now (bytes .entry))) i 2 ⌝ }
 {
@@ -84,7 +84,7 @@ fn pair(bytes: &[u8], i: usize) -> u16
 }
 
 // The four bytes from i on.
-fn four(bytes: &[u8], i: usize) -> u32
+fn big4(bytes: &[u8], i: usize) -> u32
     requires { ⌜ i + 3 < length (now bytes) ⌝ }
     ensures { λ r. ⌜ r ≡ written 256 (byteIn (now (bytes .entry))) i 4 ⌝ }
 {
@@ -92,19 +92,19 @@ fn four(bytes: &[u8], i: usize) -> u32
 }
 
 // The exponent of word k of groups of 0015, in the lowest four bits.
-fn exponent(bytes: &[u8], k: usize) -> u32
+fn group_exponent(bytes: &[u8], k: usize) -> u32
     requires { ⌜ 10 * (k / 4) + 1 < length (now bytes) ⌝ }
     ensures { λ r. ⌜ r % 16 ≡ groupExponent (now (bytes .entry)) k ⌝ }
 {
-    (pair(bytes, 10 * (k / 4)) as u32) >> (12 - 4 * ((k % 4) as u32))
+    (big2(bytes, 10 * (k / 4)) as u32) >> (12 - 4 * ((k % 4) as u32))
 }
 
 // Word k of groups of 0015.
-fn fraction(bytes: &[u8], k: usize) -> u16
+fn group_word(bytes: &[u8], k: usize) -> u16
     requires { ⌜ 10 * (k / 4) + 9 < length (now bytes) ⌝ }
     ensures { λ r. ⌜ r ≡ groupWord (now (bytes .entry)) k ⌝ }
 {
-    pair(bytes, 10 * (k / 4) + 2 + 2 * (k % 4))
+    big2(bytes, 10 * (k / 4) + 2 + 2 * (k % 4))
 }
 
 // Writes sample j of group g of 0015, by the group's exponents; 1 if its word is off rule.
@@ -118,7 +118,7 @@ fn sample15(bytes: &[u8], exponents: u32, g: usize, j: usize, out: &mut [i32]) -
 {
     let w = words::value15(
         exponents >> (12 - 4 * (j as u32)),
-        pair(bytes, 10 * g + 2 + 2 * j),
+        big2(bytes, 10 * g + 2 + 2 * j),
     );
     put(out, 4 * g + j, w);
     count(0, w)
@@ -133,7 +133,7 @@ fn groups(bytes: &[u8], n: usize, out: &mut [i32]) -> usize
     let mut off: usize = 0;
     let mut g: usize = 0;
     while g < n / 4 {
-        let exponents = pair(bytes, 10 * g) as u32;
+        let exponents = big2(bytes, 10 * g) as u32;
         let a = sample15(bytes, exponents, g, 0, out);
         let b = sample15(bytes, exponents, g, 1, out);
         let c = sample15(bytes, exponents, g, 2, out);
@@ -144,20 +144,68 @@ fn groups(bytes: &[u8], n: usize, out: &mut [i32]) -> usize
     off
 }
 
-// Words of one byte, by the table lent, spelled out.
-pub fn bytes_by(table: &[i32], bytes: &[u8], out: &mut [i32]) -> Ran
-    ensures { λ r. ⌜ r ≡ ran 1 1 (tableValue (now (table .entry))) (now (bytes .entry)) (now (out .entry)) ⌝ }
-    ensures { λ r. ⌜ now (out .exit) ≡ filled 1 1 (tableValue (now (table .entry))) (now (bytes .entry)) (now (out .entry)) ⌝ }
+// Off-rule words of one byte, with one word more.
+fn count_byte(off: u8, code: u16, b: u8) -> u8
+    requires { ⌜ off < 255 ⌝ }
+    ensures { λ r. ⌜ r ≡ off + byteOne code b ⌝ }
 {
-    let n = least(bytes.len(), out.len() / 2);
+    if words::off_byte(code, b) {
+        off + 1
+    } else {
+        off
+    }
+}
+
+// The off-rule words among bytes k to e. Their count is a byte, as they are: so many of them are looked at in one instruction.
+fn off_few(code: u16, bytes: &[u8], k: usize, e: usize) -> u8
+    requires { ⌜ (k ≤ e) × (e ≤ k + 255) × (e ≤ length (now bytes)) ⌝ }
+    ensures { λ r. ⌜ Between code (now (bytes .entry)) k e r ⌝ }
+{
+    let mut off: u8 = 0;
+    let mut i = k;
+    while i < e {
+        off = count_byte(off, code, bytes[i]);
+        i += 1;
+    }
+    off
+}
+
+// The end of the next bytes to count: of 224, which the compiled loop takes 32 at a turn, or of those that are left.
+fn next_few(k: usize, n: usize) -> usize
+    requires { ⌜ k < n ⌝ }
+    ensures { λ r. ⌜ (k < r) × (r ≤ n) × (r ≤ k + 255) ⌝ }
+{
+    if n - k <= 224 { n } else { k + 224 }
+}
+
+// The off-rule words among the first n bytes.
+fn off_bytes(code: u16, bytes: &[u8], n: usize) -> usize
+    requires { ⌜ n ≤ length (now bytes) ⌝ }
+    ensures { λ r. ⌜ Between code (now (bytes .entry)) 0 n r ⌝ }
+{
     let mut off: usize = 0;
     let mut k: usize = 0;
     while k < n {
-        let w = words::by_entry(table, bytes[k]);
-        off = count(off, w);
+        let e = next_few(k, n);
+        off += off_few(code, bytes, k, e) as usize;
+        k = e;
+    }
+    off
+}
+
+// Words of one byte, by the table lent. Off-rule words are counted apart, since that takes less than to count each with its sample.
+pub fn bytes_by(code: u16, table: &[u64], bytes: &[u8], out: &mut [i32]) -> Ran
+    ensures { λ r. ⌜ r ≡ ran 1 1 (tableValue code (now (table .entry))) (now (bytes .entry)) (now (out .entry)) ⌝ }
+    ensures { λ r. ⌜ now (out .exit) ≡ filled 1 1 (tableValue code (now (table .entry))) (now (bytes .entry)) (now (out .entry)) ⌝ }
+{
+    let n = least(bytes.len(), out.len() / 2);
+    let mut k: usize = 0;
+    while k < n {
+        let w = words::by_entry(code, table, bytes[k]);
         put(out, k, w);
         k += 1;
     }
+    let off = off_bytes(code, bytes, n);
     Ran {
         samples: n,
         off: off,
@@ -173,7 +221,7 @@ pub fn words24(bytes: &[u8], out: &mut [i32]) -> Ran
     let mut off: usize = 0;
     let mut k: usize = 0;
     while k < n {
-        let w = words::value24(pair(bytes, 2 * k));
+        let w = words::value24(big2(bytes, 2 * k));
         off = count(off, w);
         put(out, k, w);
         k += 1;
@@ -193,7 +241,7 @@ pub fn words44(bytes: &[u8], out: &mut [i32]) -> Ran
     let mut off: usize = 0;
     let mut k: usize = 0;
     while k < n {
-        let w = words::value44(pair(bytes, 2 * k));
+        let w = words::value44(big2(bytes, 2 * k));
         off = count(off, w);
         put(out, k, w);
         k += 1;
@@ -213,7 +261,7 @@ pub fn words48(bytes: &[u8], out: &mut [i32]) -> Ran
     let mut off: usize = 0;
     let mut k: usize = 0;
     while k < n {
-        let w = words::value48(four(bytes, 4 * k));
+        let w = words::value48(big4(bytes, 4 * k));
         off = count(off, w);
         put(out, k, w);
         k += 1;
@@ -233,7 +281,7 @@ pub fn groups15(bytes: &[u8], out: &mut [i32]) -> Ran
     let mut off = groups(bytes, n, out);
     let mut k = n / 4 * 4;
     while k < n {
-        let w = words::value15(exponent(bytes, k), fraction(bytes, k));
+        let w = words::value15(group_exponent(bytes, k), group_word(bytes, k));
         off = count(off, w);
         put(out, k, w);
         k += 1;

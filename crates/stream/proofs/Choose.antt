@@ -7,7 +7,6 @@ use mathlib.Core.List.{List}
 use native.Mathlib.Nat.{one-mul}
 use native.Mathlib.Omega.{arith}
 use lib.Dec.{T, eqb, leb, eqb→eq}
-use lib.IntN.{ℤ}
 use mir.Facts.{and-yes}
 use borrow.Author.Tests.{eq-eqb, ne-eqb, lt-leb}
 use Rattle.basis.specs.Choice.{pick}
@@ -16,8 +15,9 @@ use Rattle.codes.specs.declared.Found.the-variants.{At}
 use Rattle.codes.specs.Codes.{table, findIn, rowOf, groupIn, groupOf, perIn, leadIn, wordBytesIn}
 use Rattle.codes.proofs.Rows.{holds, row-code, row-groups, Groups, none, one, two, four, ten}
 use Rattle.words.specs.Words.{valued, valueOf}
-use Rattle.words.specs.Entries.{spelled, wordBy, Reads}
-use Rattle.runs.specs.Words.{byteIn, tableValue, plainValue}
+use Rattle.words.specs.Entries.{tabled, wordBy, Reads}
+use Rattle.runs.specs.Words.{tableValue, plainValue}
+use Rattle.basis.specs.Digits.{byteIn}
 use Rattle.runs.proofs.Bytes.{written-one}
 use Rattle.stream.specs.Bulk.{Ready}
 use Rattle.stream.proofs.Readers.{read-group, read-value}
@@ -38,7 +38,7 @@ pub group15 : groupOf 0x0015 ≡ 10
 unfolding groupOf rowOf findIn table groupIn pick
 group15 = refl
 
-pub width-is : {code w : ℕ} {ts : List ℤ} (c g : ℕ) → Ready code w ts → code ≡ c → groupOf c ≡ g → w ≡ g
+pub width-is : {code w : ℕ} {xs : List ℕ} (c g : ℕ) → Ready code w xs → code ≡ c → groupOf c ≡ g → w ≡ g
 width-is c g d e k = sym (d .group) ∙ ap groupOf e ∙ k
 
 -- a multiplexed code that is none of these has words of one byte
@@ -51,7 +51,7 @@ all-rest : (code : ℕ) (r : Row) → rowOf code ≡ At r → T (rest r)
 unfolding rowOf findIn table
 all-rest code r e = holds rest table code r tt e
 
-module _ (code : ℕ) (r : Row) (ts : List ℤ) (d : Reads code r ts) (low : code < 0x8000) where
+module _ (code : ℕ) (r : Row) (xs : List ℕ) (d : Reads code r xs) (low : code < 0x8000) where
   narrow : (code ≡ 0x0024 → ⊥) → (code ≡ 0x0044 → ⊥) → (code ≡ 0x0048 → ⊥) → (code ≡ 0x0015 → ⊥) → T (eqb (r .width) 8 && eqb (r .apart) 0)
   narrow n24 n44 n48 n15 =
       let t : T (leb 0x8000 (r .code) || (eqb (r .code) 0x0024 || (eqb (r .code) 0x0044 || (eqb (r .code) 0x0048 || (eqb (r .code) 0x0015 || (eqb (r .width) 8 && eqb (r .apart) 0)))))) = all-rest code r (d .row) in
@@ -73,11 +73,11 @@ module _ (code : ℕ) (r : Row) (ts : List ℤ) (d : Reads code r ts) (low : cod
       go (four x f g i j) = absurd (omega arith)
       go (ten x f g i j) = absurd (omega arith)
 
-  by-bytes : (b : ℕ) → groupIn r ≡ 1 → valued (spelled ts 0 b) ≡ valueOf code 0 b
+  by-bytes : (b : ℕ) → groupIn r ≡ 1 → valued (tabled code xs 0 b) ≡ valueOf code 0 b
   unfolding wordBy pick
-  by-bytes b e = let h = read-value d 0 b in rw (eq-eqb (r .width) 8 (byte-wide e)) at h
+  by-bytes b e = let h = read-value d 0 b in rw (eq-eqb (r .width) 8 (byte-wide e), row-code code r (d .row)) at h
 
-  pub ready : Ready code (groupIn r) ts
+  pub ready : Ready code (groupIn r) xs
   ready =
       record {
         group = read-group d;
@@ -86,9 +86,9 @@ module _ (code : ℕ) (r : Row) (ts : List ℤ) (d : Reads code r ts) (low : cod
       }
 
 -- a table that reads a code's words of one byte
-pub table-is : (code w : ℕ) (ts : List ℤ) → Ready code w ts → w ≡ 1 → tableValue ts ≡ plainValue code 1
+pub table-is : (code w : ℕ) (xs : List ℕ) → Ready code w xs → w ≡ 1 → tableValue code xs ≡ plainValue code 1
 unfolding tableValue plainValue
-table-is code w ts d e = λ i bs k. at bs k i
+table-is code w xs d e = λ i bs k. at bs k i
   where
-    at : (bs : List ℕ) (k : ℕ) → tableValue ts bs k ≡ plainValue code 1 bs k
+    at : (bs : List ℕ) (k : ℕ) → tableValue code xs bs k ≡ plainValue code 1 bs k
     at bs k = d .bytes (byteIn bs k) e ∙ ap (λ (x : ℕ). valueOf code 0 x) (sym (written-one (byteIn bs) (1 * k) ∙ ap (byteIn bs) (one-mul k)))

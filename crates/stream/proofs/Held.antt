@@ -6,8 +6,7 @@ use mathlib.Core.List.{List}
 use native.Mathlib.Nat.{mod-eq-of-lt, add-suc, add-zero}
 use native.Mathlib.Omega.{arith}
 use lib.ListN.{length, getD}
-use Rattle.basis.specs.Digits.{written}
-use Rattle.runs.specs.Words.{byteIn}
+use Rattle.basis.specs.Digits.{written, byteIn}
 use Rattle.scan.specs.Step.{shift, low}
 use Rattle.stream.specs.Bulk.{lastFour}
 

@@ -6,7 +6,6 @@ pub mod Words
 pub mod Starts
 pub mod Whole
 pub mod Choose
-pub mod Spelling
 pub mod Parts
 pub mod Going
 pub mod Cuts

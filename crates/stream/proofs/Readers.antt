@@ -4,7 +4,6 @@ use Prim.Native.Nat.{ℕ, _≤_, _<_}
 use mathlib.Core.Path.{_≡_, sym, ap, _∙_}
 use mathlib.Core.List.{List}
 use native.Mathlib.Omega.{arith}
-use lib.IntN.{ℤ}
 use Rattle.codes.specs.declared.Row.{Row}
 use Rattle.codes.specs.declared.Found.the-variants.{At}
 use Rattle.codes.specs.Codes.{rowOf, groupOf, perOf, leadOf, wordBytesOf, bitsOf, groupIn, perIn, leadIn, wordBytesIn}
@@ -62,14 +61,14 @@ row-some code r e = rw (group-row code r e) (go (row-groups code r e))
     go (four x f g i j) = omega arith
     go (ten x f g i j) = omega arith
 
-module _ {code : ℕ} {r : Row} {ts : List ℤ} (d : Reads code r ts) where
+module _ {code : ℕ} {r : Row} {xs : List ℕ} (d : Reads code r xs) where
   pub read-group : groupOf code ≡ groupIn r
   read-group = group-row code r (d .row)
 
   pub read-pos : 0 < groupOf code
   read-pos = row-some code r (d .row)
 
-  pub read-value : (c w : ℕ) → valued (wordBy ts r c w) ≡ valueOf code c w
+  pub read-value : (c w : ℕ) → valued (wordBy xs r c w) ≡ valueOf code c w
   unfolding valueOf
   read-value c w = ap valued (d .word c w)
 
@@ -77,5 +76,5 @@ module _ {code : ℕ} {r : Row} {ts : List ℤ} (d : Reads code r ts) where
 pub able-narrow : (s : State) (w len : ℕ) → Able s w len → (0 < w) × ((w ≡ 10 → ⊥) → w ≤ 4)
 able-narrow s w len a =
     let p : 0 < groupOf (s .shape .code) = shape-parts (s .shape) (a .fit .shape) .group in
-    let e = a .width in
+    let e = a .group in
     (omega (arith, e, p), λ n. let g = group-plain (s .shape .code) p (λ k. n (sym e ∙ k)) in omega (arith, e, g))

@@ -11,17 +11,17 @@ use Rattle.codes.specs.Codes.{groupOf}
 use Rattle.words.specs.Words.{valueOf}
 use Rattle.scan.specs.declared.State.{State}
 use Rattle.scan.specs.Step.{word, plain, grouped, quiet, still, sample, moved, shift, low}
-use Rattle.stream.specs.Spots.{wordEnds, leads, exponent, width}
+use Rattle.stream.specs.Spots.{wordEnds, leads, exponent, wordBytes}
 use Rattle.stream.proofs.Readers.{group-plain}
 
 -- what a byte of groups of w bytes does
 data Does (s : State) (b w q : ℕ) : Type 0 where
-  gives : wordEnds w q ≡ true → word s b q ≡ sample s (valueOf (s .shape .code) (exponent w q (s .exponents)) (low (shift (s .held) b) (width w))) b → Does s b w q
+  gives : wordEnds w q ≡ true → word s b q ≡ sample s (valueOf (s .shape .code) (exponent w q (s .exponents)) (low (shift (s .held) b) (wordBytes w))) b → Does s b w q
   lead : wordEnds w q ≡ false → leads w q ≡ true → word s b q ≡ still (moved s (s .track) (low (shift (s .held) b) 2) (s .off) b) → Does s b w q
   none : wordEnds w q ≡ false → leads w q ≡ false → word s b q ≡ quiet s b → Does s b w q
 
 does : (s : State) (b w q : ℕ) → groupOf (s .shape .code) ≡ w → Does s b w q
-unfolding wordEnds leads exponent width word plain grouped pick
+unfolding wordEnds leads exponent wordBytes word plain grouped pick
 does s b w q g = rw (sym g) (go (eqb (groupOf (s .shape .code)) 10) (eqb ((q - 8) % 10 % 2) 0) (eqb ((q - 8) % 10) 1) (eqb ((q - 7) % groupOf (s .shape .code)) 0) refl refl refl refl)
   where
     go : (t u v x : Bool) → eqb (groupOf (s .shape .code)) 10 ≡ t → eqb ((q - 8) % 10 % 2) 0 ≡ u → eqb ((q - 8) % 10) 1 ≡ v → eqb ((q - 7) % groupOf (s .shape .code)) 0 ≡ x → Does s b (groupOf (s .shape .code)) q
@@ -39,10 +39,10 @@ clash : (t : Bool) → t ≡ true → t ≡ false → ⊥
 clash t a b = false≢true (sym b ∙ a)
 
 module _ (s : State) (b w q : ℕ) (g : groupOf (s .shape .code) ≡ w) where
-  pub word-gives : wordEnds w q ≡ true → word s b q ≡ sample s (valueOf (s .shape .code) (exponent w q (s .exponents)) (low (shift (s .held) b) (width w))) b
+  pub word-gives : wordEnds w q ≡ true → word s b q ≡ sample s (valueOf (s .shape .code) (exponent w q (s .exponents)) (low (shift (s .held) b) (wordBytes w))) b
   word-gives e = go (does s b w q g)
     where
-      go : Does s b w q → word s b q ≡ sample s (valueOf (s .shape .code) (exponent w q (s .exponents)) (low (shift (s .held) b) (width w))) b
+      go : Does s b w q → word s b q ≡ sample s (valueOf (s .shape .code) (exponent w q (s .exponents)) (low (shift (s .held) b) (wordBytes w))) b
       go (gives x y) = y
       go (lead x y z) = absurd (clash (wordEnds w q) e x)
       go (none x y z) = absurd (clash (wordEnds w q) e x)
@@ -64,9 +64,9 @@ module _ (s : State) (b w q : ℕ) (g : groupOf (s .shape .code) ≡ w) where
       go (none x y z) = z
 
 -- a word has one, two or four bytes
-pub width-low : (code w : ℕ) → groupOf code ≡ w → 0 < w → (0 < width w) × (width w ≤ 4) × (width w ≡ 3 → ⊥)
-unfolding width pick
-width-low code w g p = go (eqb w 10) refl
+pub word-bytes-low : (code w : ℕ) → groupOf code ≡ w → 0 < w → (0 < wordBytes w) × (wordBytes w ≤ 4) × (wordBytes w ≡ 3 → ⊥)
+unfolding wordBytes pick
+word-bytes-low code w g p = go (eqb w 10) refl
   where
     go : (t : Bool) → eqb w 10 ≡ t → (0 < pick t 2 w) × (pick t 2 w ≤ 4) × (pick t 2 w ≡ 3 → ⊥)
     go true e = (omega arith, omega arith, λ x. omega arith)

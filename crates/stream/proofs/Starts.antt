@@ -13,9 +13,8 @@ use lib.IntN.{ℤ}
 use lib.ListN.{take, drop, take-append-drop}
 use lib.Seq.{drop-cons}
 use Rattle.basis.specs.Choice.{pick}
-use Rattle.basis.specs.Digits.{written}
+use Rattle.basis.specs.Digits.{written, byteIn}
 use Rattle.basis.proofs.Choices.{and-true}
-use Rattle.runs.specs.Words.{byteIn}
 use Rattle.scan.specs.declared.Track.{Track}
 use Rattle.scan.specs.declared.State.{State}
 use Rattle.scan.specs.Step.{step, still, moved, quiet, sync, start, full, mark, marked, phased, time, timed, instep, shift, after, wrote, pair}

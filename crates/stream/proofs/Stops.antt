@@ -13,7 +13,7 @@ use Rattle.refusals.specs.declared.Refusal.{Refusal}
 use Rattle.refusals.specs.Table.{said}
 use Rattle.scan.specs.Fit.{stopb}
 use Rattle.scan.proofs.Choices.{pick-cases}
-use Rattle.stream.specs.Calls.{stopOf}
+use Rattle.stream.specs.Calls.{stopRefusal}
 
 -- a number that stands for a stop
 stops : (n : ℕ) → stopb n ≡ true → (n ≡ 0 → ⊥) → (14 ≤ n) × (n ≤ 18)
@@ -24,8 +24,8 @@ stops n e z = go (eqb n 0) refl e
     go true p q = absurd (z (eqb-true n 0 p))
     go false p q = let b = both-true (leb 14 n) (leb n 18) q in (leb-true 14 n (b .0), leb-true n 18 (b .1))
 
-pub stop-said : (n place : ℕ) → stopb n ≡ true → (n ≡ 0 → ⊥) → said (stopOf n place) ≡ record { number = n; values = place ∷ [] }
-unfolding stopOf
+pub stop-said : (n place : ℕ) → stopb n ≡ true → (n ≡ 0 → ⊥) → said (stopRefusal n place) ≡ record { number = n; values = place ∷ [] }
+unfolding stopRefusal
 stop-said n place e z =
     let b = stops n e z in
     let P : Refusal → Type 0 = λ r. said r ≡ record { number = n; values = place ∷ [] } in

@@ -12,12 +12,12 @@ use lib.IntN.{ℤ}
 use lib.ListN.{length, getD}
 use lib.Seq.{take-length}
 use Rattle.basis.specs.Choice.{pick}
-use Rattle.basis.specs.Digits.{written}
+use Rattle.basis.specs.Digits.{written, byteIn}
 use Rattle.basis.specs.Upto.{upto}
 use Rattle.words.specs.declared.Value.{Value}
 use Rattle.runs.specs.declared.Ran.{Ran}
 use Rattle.runs.specs.Runs.{offs, numbers, samplesIn, ran, filled, over}
-use Rattle.runs.specs.Words.{byteIn, plainValue, groupedValue}
+use Rattle.runs.specs.Words.{plainValue, groupedValue}
 use Rattle.runs.proofs.Done.{one-low, samples-whole, numbers-length}
 use Rattle.scan.specs.declared.State.{State}
 use Rattle.scan.specs.Step.{after, wrote}

@@ -11,14 +11,14 @@ use borrow.Author.Tests.{eq-eqb, ne-eqb, le-ltb, eqb-true, eqb-false}
 use lib.Dec.{eqb}
 use lib.ListN.{length, getD}
 use Rattle.basis.specs.Choice.{pick}
-use Rattle.basis.specs.Digits.{written}
+use Rattle.basis.specs.Digits.{written, byteIn}
 use Rattle.basis.specs.Fields.{field}
 use Rattle.basis.proofs.Digits.{Next, along, wrap, next}
 use Rattle.codes.specs.Codes.{groupOf}
 use Rattle.words.specs.declared.Value.{Value}
 use Rattle.words.specs.Words.{valueOf}
 use Rattle.runs.specs.Runs.{offOne, offs}
-use Rattle.runs.specs.Words.{byteIn, plainValue, groupedValue, groupExponent, groupWord}
+use Rattle.runs.specs.Words.{plainValue, groupedValue, groupExponent, groupWord}
 use Rattle.runs.proofs.Done.{offs-more}
 use Rattle.scan.specs.declared.State.{State}
 use Rattle.scan.specs.declared.Stepped.{Stepped}
@@ -132,7 +132,7 @@ module _ (s : State) (bs : List ℕ) (w : ℕ) (a : Able s w (length bs)) (np : 
       go : Next w i → Turn bs plainAt words (plainValue (s .shape .code) w bs) i
       go (along dv md lt) =
           quietly
-          (run-step s bs w a i h _ _ _ ∙ word-plain (plainAt i) (getD bs i 0) w (s .place % s .shape .scan + i) (a .width) np
+          (run-step s bs w a i h _ _ _ ∙ word-plain (plainAt i) (getD bs i 0) w (s .place % s .shape .scan + i) (a .group) np
           ∙ plain-quiet (plainAt i) (getD bs i 0) w (s .place % s .shape .scan + i) (i % w) (omega (arith, a .low)) (spot s bs w a i h) lt
           ∙ quiet-next s bs w a i h _ _ _
           ∙ ap (λ (n : ℕ). still (at s (suc i) (s .off + offs (plainValue (s .shape .code) w bs) n) (heldAt bs (s .held) (suc i)) (s .exponents))) (sym dv))
@@ -140,7 +140,7 @@ module _ (s : State) (bs : List ℕ) (w : ℕ) (a : Able s w (length bs)) (np : 
       go (wrap dv md e) =
           let d : suc i / w ≡ i / w + 1 = dv ∙ sym (add-one (i / w)) in
           giving
-          (run-step s bs w a i h _ _ _ ∙ word-plain (plainAt i) (getD bs i 0) w (s .place % s .shape .scan + i) (a .width) np
+          (run-step s bs w a i h _ _ _ ∙ word-plain (plainAt i) (getD bs i 0) w (s .place % s .shape .scan + i) (a .group) np
           ∙ plain-wrote (plainAt i) (getD bs i 0) w (s .place % s .shape .scan + i) (i % w) (omega (arith, a .low)) (spot s bs w a i h) e
           ∙ sample-next s bs w a i h (plainValue (s .shape .code) w bs) (i / w) _ _ _ (word-is i e)
           ∙ ap (λ (n : ℕ). gave (at s (suc i) (s .off + offs (plainValue (s .shape .code) w bs) n) (heldAt bs (s .held) (suc i)) (s .exponents)) (plainValue (s .shape .code) w bs (i / w))) (sym d))
@@ -222,7 +222,7 @@ module _ (s : State) (bs : List ℕ) (a : Able s 10 (length bs)) (l : (i : ℕ) 
       led e x d = rw (x, d)
 
       begin : step (groupedAt i) (getD bs i 0) ≡ grouped (groupedAt i) (getD bs i 0) (i % 10)
-      begin = run-step s bs 10 a i h _ _ _ ∙ word-grouped (groupedAt i) (getD bs i 0) (s .place % s .shape .scan + i) (i % 10) (a .width) (spot s bs 10 a i h)
+      begin = run-step s bs 10 a i h _ _ _ ∙ word-grouped (groupedAt i) (getD bs i 0) (s .place % s .shape .scan + i) (i % 10) (a .group) (spot s bs 10 a i h)
 
       go : (t u : Bool) → eqb (i % 10 % 2) 0 ≡ t → eqb (i % 10) 1 ≡ u → Turn bs groupedAt fours (groupedValue (s .shape .code) bs) i
       go true u p q =

@@ -2,19 +2,18 @@
 -- Cited by private functions alone. Assumes nothing.
 use Prim.Native.Nat.{ℕ, _+_, _-_, _%_, _≤_, _<_}
 use mathlib.Core.Path.{_≡_}
-use mathlib.Core.Bool.{Bool}
 use mathlib.Core.List.{List, _++_}
 use lib.Dec.{eqb}
-use lib.IntN.{ℤ, pos}
+use lib.IntN.{ℤ}
 use lib.ListN.{length, take, drop}
 use Rattle.basis.specs.Choice.{pick}
-use Rattle.basis.specs.Digits.{written}
+use Rattle.basis.specs.Digits.{written, byteIn}
 use Rattle.codes.specs.Codes.{groupOf}
 use Rattle.runs.specs.Runs.{over}
-use Rattle.runs.specs.Words.{byteIn, plainValue, groupedValue}
+use Rattle.runs.specs.Words.{plainValue, groupedValue}
 use Rattle.words.specs.declared.Value.{Value}
-use Rattle.words.specs.Words.{valued, valueOf, wordOf}
-use Rattle.words.specs.Entries.{spelled}
+use Rattle.words.specs.Words.{valued, valueOf}
+use Rattle.words.specs.Entries.{tabled}
 use Rattle.scan.specs.declared.State.{State}
 use Rattle.scan.specs.Fit.{Fit}
 use Rattle.scan.specs.Step.{after, wrote}
@@ -24,7 +23,7 @@ use Rattle.stream.specs.declared.Chunk.{Chunk}
 pub record Able (s : State) (w len : ℕ) : Type 0 where
   pub fit : Fit s
   pub stop : s .stop ≡ 0
-  pub width : groupOf (s .shape .code) ≡ w
+  pub group : groupOf (s .shape .code) ≡ w
   pub low : 8 ≤ s .place % s .shape .scan
   pub high : s .place % s .shape .scan + len ≤ s .shape .scan
   pub room : s .place + len ≤ 4294967295
@@ -32,20 +31,11 @@ pub record Able (s : State) (w len : ℕ) : Type 0 where
   pub whole : len % w ≡ 0
   pub some : 4 ≤ len
 
--- the loops read a multiplexed code's words, of w bytes: by the table lent, spelled out, where they are of one byte
-pub record Ready (code w : ℕ) (ts : List ℤ) : Type 0 where
+-- the loops read a multiplexed code's words, of w bytes: by the table lent where they are of one byte
+pub record Ready (code w : ℕ) (xs : List ℕ) : Type 0 where
   pub group : groupOf code ≡ w
-  pub bytes : (b : ℕ) → w ≡ 1 → valued (spelled ts 0 b) ≡ valueOf code 0 b
+  pub bytes : (b : ℕ) → w ≡ 1 → valued (tabled code xs 0 b) ≡ valueOf code 0 b
   pub only : (code ≡ 0x0024 → ⊥) → (code ≡ 0x0044 → ⊥) → (code ≡ 0x0048 → ⊥) → (code ≡ 0x0015 → ⊥) → w ≡ 1
-
--- the mark of a word in a table spelled out
-unfoldable pub markOf : Bool → ℤ
-markOf off = pick off (pos 1) (pos 0)
-
--- a table spelled out reads a code's words of one byte
-pub record Reader (code : ℕ) (ts : List ℤ) : Type 0 where
-  pub long : length ts ≡ 768
-  pub word : (c w : ℕ) → spelled ts c w ≡ wordOf code c w
 
 -- r of the `left` next bytes may be taken at once
 pub record Ahead (s : State) (left r : ℕ) : Type 0 where

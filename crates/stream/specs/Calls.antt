@@ -17,8 +17,8 @@ use Rattle.stream.specs.declared.Answer.{Answer}
 use Rattle.stream.specs.declared.Answer.the-variants.{GoingOn, Stopped, Refused}
 
 -- "14 to 18 stop the body": the refusal of a stop's number and place
-unfoldable pub stopOf : ℕ → ℕ → Refusal
-stopOf number place =
+unfoldable pub stopRefusal : ℕ → ℕ → Refusal
+stopRefusal number place =
     pick (eqb number 14) (R.Long place)
     (pick (eqb number 15) (R.Block place)
     (pick (eqb number 16) (R.Sync place)
@@ -26,7 +26,7 @@ stopOf number place =
 
 -- how many samples were written, M and X each, and whether the body has stopped
 unfoldable pub answered : State → ℕ → Answer
-answered s n = pick (eqb (s .stop) 0) (GoingOn (n / 2)) (Stopped (n / 2) (stopOf (s .stop) (s .stopat)))
+answered s n = pick (eqb (s .stop) 0) (GoingOn (n / 2)) (Stopped (n / 2) (stopRefusal (s .stop) (s .stopat)))
 
 -- "13 and 23 change nothing and stop nothing"
 unfoldable pub unchanged : State → Refusal → Gave

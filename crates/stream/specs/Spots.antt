@@ -1,4 +1,4 @@
--- Where a byte stands in its word: groups of w bytes from place 8 of a scan on, ten of them four words after their exponents.
+-- Where a byte stands in its word: groups of w bytes from place 8 of a scan on; a group of ten bytes is two of exponents and then four words.
 -- Cited by private functions alone. Assumes nothing.
 use Prim.Native.Nat.{ℕ, _-_, _%_}
 use mathlib.Core.Bool.{Bool, false, not, _&&_}
@@ -19,5 +19,5 @@ unfoldable pub exponent : ℕ → ℕ → ℕ → ℕ
 exponent w q e = pick (eqb w 10) (nibble e ((q - 8) % 10)) 0
 
 -- the bytes of a word
-unfoldable pub width : ℕ → ℕ
-width w = pick (eqb w 10) 2 w
+unfoldable pub wordBytes : ℕ → ℕ
+wordBytes w = pick (eqb w 10) 2 w

@@ -7,9 +7,8 @@ use mathlib.Core.List.{List}
 use lib.Dec.{eqb}
 use lib.ListN.{length}
 use Rattle.basis.specs.Choice.{pick}
-use Rattle.basis.specs.Digits.{written}
+use Rattle.basis.specs.Digits.{written, byteIn}
 use Rattle.codes.specs.Codes.{groupOf}
-use Rattle.runs.specs.Words.{byteIn}
 use Rattle.scan.specs.declared.Track.{Track}
 use Rattle.scan.specs.declared.State.{State}
 use Rattle.scan.specs.Fit.{Fit}
@@ -63,7 +62,7 @@ pub record Takes (s : State) (w : ℕ) (bs : List ℕ) (i k : ℕ) : Type 0 wher
   pub start : s .place % s .shape .scan ≡ 0 → (k ≡ 8) × Sound s bs i
   pub words : (s .place % s .shape .scan ≡ 0 → ⊥) → Able s w k
 
--- r of the bytes from i on may be
+-- r of the bytes from i on, possibly none, may be taken at once
 pub record Next (s : State) (bs : List ℕ) (i r : ℕ) : Type 0 where
   pub within : r ≤ length bs - i
   pub takes : 0 < r → Takes s (groupOf (s .shape .code)) bs i r

@@ -6,10 +6,9 @@ use scan::State;
 ghost use mathlib.Core.Path.{_≡_};
 ghost use Prim.Native.Nat.{_+_, _-_, _*_, _%_, _≤_, _<_};
 ghost use lib.ListN.{length, take, drop};
-ghost use Rattle.basis.specs.Digits.{written};
+ghost use Rattle.basis.specs.Digits.{written, byteIn};
 ghost use Rattle.codes.specs.Codes.{groupOf};
 ghost use Rattle.runs.specs.Runs as Runs;
-ghost use Rattle.runs.specs.Words.{byteIn};
 ghost use Rattle.scan.specs.Fit.{Fit};
 ghost use Rattle.scan.specs.Step.{wrote};
 ghost use Rattle.stream.specs.Bulk as Bulk;
@@ -60,7 +59,7 @@ fn ran_to(s: State, w: u32, bytes: &[u8], off: usize) -> State
 }
 
 // The loop of the code.
-fn by_code(code: u16, w: u32, table: &[i32], bytes: &[u8], out: &mut [i32]) -> Ran
+fn by_code(code: u16, w: u32, table: &[u64], bytes: &[u8], out: &mut [i32]) -> Ran
     requires { ⌜ Bulk.Ready code w (now table) ⌝ }
     ensures { λ r. ⌜ r ≡ Runs.ran w (Bulk.perGroup w) (Bulk.valueIn code w) (now (bytes .entry)) (now (out .entry)) ⌝ }
     ensures { λ r. ⌜ now (out .exit) ≡ Runs.filled w (Bulk.perGroup w) (Bulk.valueIn code w) (now (bytes .entry)) (now (out .entry)) ⌝ }
@@ -77,11 +76,11 @@ fn by_code(code: u16, w: u32, table: &[i32], bytes: &[u8], out: &mut [i32]) -> R
     if code == 0x0015 {
         return runs::groups15(bytes, out);
     }
-    runs::bytes_by(table, bytes, out)
+    runs::bytes_by(code, table, bytes, out)
 }
 
 // A run of whole words.
-fn run(s: State, w: u32, table: &[i32], bytes: &[u8], out: &mut [i32]) -> Chunk
+fn run(s: State, w: u32, table: &[u64], bytes: &[u8], out: &mut [i32]) -> Chunk
     requires { ⌜ Bulk.Ready (s .shape .code) w (now table) ⌝ }
     requires { ⌜ Bulk.Able s w (length (now bytes)) ⌝ }
     requires { ⌜ 2 * length (now bytes) ≤ length (now out) ⌝ }
@@ -157,7 +156,7 @@ pub(crate) fn ahead(s: State, w: u32, left: usize) -> usize
 pub(crate) fn run_at(
     s: State,
     w: u32,
-    table: &[i32],
+    table: &[u64],
     bytes: &[u8],
     i: usize,
     k: usize,

@@ -258,14 +258,14 @@ fn exponent(w: u32, q: u32, e: u32) -> u32
 }
 
 // The bytes of a word of groups of w bytes.
-fn width(w: u32) -> u32
-    ensures { λ r. ⌜ r ≡ Spots.width w ⌝ }
+fn word_bytes(w: u32) -> u32
+    ensures { λ r. ⌜ r ≡ Spots.wordBytes w ⌝ }
 {
     if w == 10 { 2 } else { w }
 }
 
 // A byte of the sample words, q its place in the scan. There is no other call of `read`, so it is inlined here.
-fn word(s: State, row: Row, table: &[i32], b: u8, q: u32) -> Stepped
+fn word(s: State, row: Row, table: &[u64], b: u8, q: u32) -> Stepped
     requires { ⌜ Reads (s .shape .code) row (now table) ⌝ }
     requires { ⌜ (s .place < 4294967295) × (s .off ≤ s .place) × (8 ≤ q) ⌝ }
     ensures { λ r. ⌜ r ≡ Step.word s b q ⌝ }
@@ -274,7 +274,7 @@ fn word(s: State, row: Row, table: &[i32], b: u8, q: u32) -> Stepped
     let held = shift(s.held, b);
     if word_ends(w, q) {
         let c = exponent(w, q, s.exponents);
-        return sample(s, words::read(row, table, c, low(held, width(w))), b);
+        return sample(s, words::read(row, table, c, low(held, word_bytes(w))), b);
     }
     if leads(w, q) {
         return still(moved(s, s.track, low(held, 2), s.off, b));
@@ -283,7 +283,7 @@ fn word(s: State, row: Row, table: &[i32], b: u8, q: u32) -> Stepped
 }
 
 // One byte.
-pub(crate) fn step(s: State, row: Row, table: &[i32], b: u8) -> Stepped
+pub(crate) fn step(s: State, row: Row, table: &[u64], b: u8) -> Stepped
     requires { ⌜ Reads (s .shape .code) row (now table) ⌝ }
     requires { ⌜ Fit s ⌝ }
     ensures { λ r. ⌜ r ≡ Step.step s b ⌝ }

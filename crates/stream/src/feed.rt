@@ -2,15 +2,16 @@
 use crate::Answer;
 use crate::Gave;
 use crate::byte::step;
-use crate::entries::spell_code;
 use crate::start::ahead_at;
 use crate::start::take_at;
-use crate::stop_of;
+use crate::stop_refusal;
 use codes::Found;
 use codes::Row;
 use refusals::Refusal;
 use scan::State;
 use words::Value;
+use words::tables::TABLE_22;
+use words::tables::TABLE_42;
 ghost use mathlib.Core.Path.{_≡_};
 ghost use Prim.Native.Nat.{_+_, _*_, _≤_, _<_};
 ghost use lib.ListN.{length, set};
@@ -31,7 +32,7 @@ pub(crate) fn answered(s: State, n: usize) -> Answer
     }
     Answer::Stopped {
         samples: n / 2,
-        refusal: stop_of(s.stop, s.stopat),
+        refusal: stop_refusal(s.stop, s.stopat),
     }
 }
 
@@ -47,7 +48,7 @@ fn put(out: &mut [i32], n: usize, w: Value)
 }
 
 // The bytes of a portion that has room: a scan's start or whole words at once where they lie ahead, else one byte. There is no other call of `step`.
-fn feed(s: State, row: Row, table: &[i32], bytes: &[u8], out: &mut [i32]) -> Gave
+fn feed(s: State, row: Row, table: &[u64], bytes: &[u8], out: &mut [i32]) -> Gave
     requires { ⌜ Reads (s .shape .code) row (now table) ⌝ }
     requires { ⌜ Fit s ⌝ }
     requires { ⌜ 2 * length (now bytes) ≤ length (now out) ⌝ }
@@ -84,7 +85,7 @@ fn feed(s: State, row: Row, table: &[i32], bytes: &[u8], out: &mut [i32]) -> Gav
 }
 
 // An earlier stop, then ROOM.
-fn take(s: State, row: Row, table: &[i32], bytes: &[u8], out: &mut [i32]) -> Gave
+fn take(s: State, row: Row, table: &[u64], bytes: &[u8], out: &mut [i32]) -> Gave
     requires { ⌜ Reads (s .shape .code) row (now table) ⌝ }
     requires { ⌜ Fit s ⌝ }
     ensures { λ r. ⌜ r ≡ Calls.taken s (now (bytes .entry)) (length (now (out .entry))) ⌝ }
@@ -106,16 +107,37 @@ fn take(s: State, row: Row, table: &[i32], bytes: &[u8], out: &mut [i32]) -> Gav
     feed(s, row, table, bytes, out)
 }
 
-// The same of words of one byte, with their table.
+// The same of 0022. Each table is lent in a function of its own, so that a portion has one of them on the stack at most.
+fn by_22(s: State, row: Row, bytes: &[u8], out: &mut [i32]) -> Gave
+    requires { ⌜ (rowOf (s .shape .code) ≡ At row) × (row .width ≡ 8) × (s .shape .code ≡ 0x0022) ⌝ }
+    requires { ⌜ Fit s ⌝ }
+    ensures { λ r. ⌜ r ≡ Calls.taken s (now (bytes .entry)) (length (now (out .entry))) ⌝ }
+    ensures { λ r. ⌜ now (out .exit) ≡ over (Calls.kept s (now (bytes .entry)) (length (now (out .entry)))) (now (out .entry)) ⌝ }
+{
+    take(s, row, &TABLE_22, bytes, out)
+}
+
+// The same of 0042.
+fn by_42(s: State, row: Row, bytes: &[u8], out: &mut [i32]) -> Gave
+    requires { ⌜ (rowOf (s .shape .code) ≡ At row) × (row .width ≡ 8) × (s .shape .code ≡ 0x0042) ⌝ }
+    requires { ⌜ Fit s ⌝ }
+    ensures { λ r. ⌜ r ≡ Calls.taken s (now (bytes .entry)) (length (now (out .entry))) ⌝ }
+    ensures { λ r. ⌜ now (out .exit) ≡ over (Calls.kept s (now (bytes .entry)) (length (now (out .entry)))) (now (out .entry)) ⌝ }
+{
+    take(s, row, &TABLE_42, bytes, out)
+}
+
+// The same of words of one byte.
 fn by_bytes(s: State, row: Row, bytes: &[u8], out: &mut [i32]) -> Gave
     requires { ⌜ (rowOf (s .shape .code) ≡ At row) × (row .width ≡ 8) ⌝ }
     requires { ⌜ Fit s ⌝ }
     ensures { λ r. ⌜ r ≡ Calls.taken s (now (bytes .entry)) (length (now (out .entry))) ⌝ }
     ensures { λ r. ⌜ now (out .exit) ≡ over (Calls.kept s (now (bytes .entry)) (length (now (out .entry)))) (now (out .entry)) ⌝ }
 {
-    let mut t: [i32; 768] = [0; 768];
-    spell_code(s.shape.code, &mut t);
-    take(s, row, &t, bytes, out)
+    if s.shape.code == 0x0022 {
+        return by_22(s, row, bytes, out);
+    }
+    by_42(s, row, bytes, out)
 }
 
 // The same of any words, with the row of the code, looked up once; no table where none is used.
@@ -130,7 +152,7 @@ pub(crate) fn by_row(s: State, bytes: &[u8], out: &mut [i32]) -> Gave
             if row.width == 8 {
                 return by_bytes(s, row, bytes, out);
             }
-            let none: [i32; 1] = [0; 1];
+            let none: [u64; 1] = [0; 1];
             take(s, row, &none[..0], bytes, out)
         }
         Found::Nothing => Gave {

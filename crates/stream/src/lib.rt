@@ -1,7 +1,6 @@
 // A portion of a multiplexed body's bytes: a state by value comes in and goes out, samples go to what is lent.
 mod bulk;
 mod byte;
-mod entries;
 mod feed;
 mod start;
 
@@ -33,8 +32,8 @@ struct Chunk {
 }
 
 // The refusal of a stop, by its number.
-pub fn stop_of(number: u32, place: u32) -> Refusal
-    ensures { λ r. ⌜ r ≡ Calls.stopOf number place ⌝ }
+pub fn stop_refusal(number: u32, place: u32) -> Refusal
+    ensures { λ r. ⌜ r ≡ Calls.stopRefusal number place ⌝ }
 {
     if number == 14 {
         return Refusal::Long { place };

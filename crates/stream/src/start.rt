@@ -102,7 +102,7 @@ pub(crate) fn ahead_at(s: State, w: u32, bytes: &[u8], i: usize) -> usize
 pub(crate) fn take_at(
     s: State,
     w: u32,
-    table: &[i32],
+    table: &[u64],
     bytes: &[u8],
     i: usize,
     k: usize,

@@ -1,4 +1,5 @@
+pub mod Signs
+pub mod Joins
 pub mod Parts
 pub mod Table
-pub mod Spelled
 pub mod Reader

@@ -2,12 +2,15 @@
 -- Assumes nothing.
 use Prim.Native.Nat.{ℕ, zero, suc, _+_, _-_, _^_, _<_, _≤_}
 use mathlib.Core.Path.{_≡_, refl, sym, _∙_, ap}
-use mathlib.Core.Bool.{Bool}
+use mathlib.Core.Bool.{Bool, _||_}
+use native.Mathlib.Nat.{zero-mul, add-zero, zero-div, zero-mod}
 use native.Mathlib.Omega.{arith}
+use lib.Dec.{ltb}
 use lib.IntN.{ℤ}
 use borrow.Author.Tests.{lt-ltb, le-ltb, lt-leb}
 use Rattle.basis.specs.Choice.{pick}
-use Rattle.basis.specs.Fields.{field}
+use Rattle.basis.specs.Fields.{field, joined}
+use Rattle.basis.proofs.FieldLaws.{rejoined}
 use Rattle.refusals.specs.declared.Refusal.the-variants.{Index}
 use Rattle.codes.specs.declared.Row.{Row}
 use Rattle.codes.specs.declared.Found.the-variants.{At}
@@ -27,6 +30,33 @@ pub from-parts : (r : Row) (c word : ℕ) {s e q last : ℕ} {m x : ℤ} {off : 
     → Sample m x off ≡ sampleIn r c word
 unfolding sampleIn
 from-parts r c word hs he hq hl hm hx ho = rw (hm, hx, ho, hs, he, hq, hl)
+
+-- a word's parts are not all zero where it is not
+joined-some : (ew n k last q e s : ℕ) → 0 < joined ew n k s e q last → 0 < last + (s + e + q)
+joined-some ew n k (suc last) q e s h = omega arith
+joined-some ew n k zero (suc q) e s h = omega arith
+joined-some ew n k zero zero (suc e) s h = omega arith
+joined-some ew n k zero zero zero (suc s) h = omega arith
+joined-some ew n k zero zero zero zero h = simp (zero-mul, add-zero) at h
+
+field-zero : (at size : ℕ) → field 0 at size ≡ 0
+unfolding field
+field-zero at size = rw (zero-div (2 ^ at), zero-mod (2 ^ size))
+
+-- whether a bit of a word, or of the exponent c apart from it, is set
+pub any-bit : (ew n k c word : ℕ) {at w s e q last : ℕ} → at ≡ k + n + ew → w ≡ 1 + at → word < 2 ^ w
+    → s ≡ field word at 1
+    → e ≡ field word (k + n) ew
+    → q ≡ field word k n
+    → last ≡ field word 0 k
+    → (ltb 0 c || ltb 0 word) ≡ ltb 0 (last + (s + (c + e) + q))
+any-bit ew n k (suc c) word {s = s} {e = e} {q = q} {last = last} ha hw h hs he hq hl =
+    rw (lt-ltb 0 (suc c) (omega arith), lt-ltb 0 (last + (s + (suc c + e) + q)) (omega arith))
+any-bit ew n k zero zero {at = at} ha hw h hs he hq hl = rw (hs, he, hq, hl, field-zero at 1, field-zero (k + n) ew, field-zero k n, field-zero 0 k)
+any-bit ew n k zero (suc word) {s = s} {e = e} {q = q} {last = last} ha hw h hs he hq hl =
+    let j : joined ew n k s e q last ≡ suc word = rw (hs, he, hq, hl, ha) (rejoined ew n k (suc word) (rw (hw, ha) at h)) in
+    let g = joined-some ew n k last q e s (rw j (omega arith)) in
+    rw (lt-ltb 0 (suc word) (omega arith), lt-ltb 0 (last + (s + (0 + e) + q)) (omega (arith, g)))
 
 pub same-sample : {m m′ x x′ : ℤ} {o o′ : Bool} → m ≡ m′ → x ≡ x′ → o ≡ o′ → Sample m x o ≡ Sample m′ x′ o′
 same-sample p q s = cc

@@ -52,14 +52,14 @@ unfoldable pub notJustified : ℕ → ℕ → Bool
 notJustified n q = ltb 0 q && eqb (field q (n - 4) 4) 0
 
 -- what else is off rule, by the kind of the fraction
-abbrev pub kindFault : Kind → ℕ → ℕ → ℕ → ℕ → ℕ → Bool
-kindFault OnesComplement n b s e q = negativeZero n s q
-kindFault SignMagnitude n b s e q = allOnes n b s e q
-kindFault Justified n b s e q = signedZero s e q || notJustified n q
+abbrev pub kindOff : Kind → ℕ → ℕ → ℕ → ℕ → ℕ → Bool
+kindOff OnesComplement n b s e q = negativeZero n s q
+kindOff SignMagnitude n b s e q = allOnes n b s e q
+kindOff Justified n b s e q = signedZero s e q || notJustified n q
 
 -- "A word is off rule"
 unfoldable pub offRule : Kind → ℕ → ℕ → ℕ → ℕ → ℕ → ℕ → Bool
-offRule kind n b last s e q = lastBit last || kindFault kind n b s e q
+offRule kind n b last s e q = lastBit last || kindOff kind n b s e q
 
 -- the bits of a word below its fraction, which are not used
 abbrev pub spareOf : Row → ℕ

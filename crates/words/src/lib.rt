@@ -1,12 +1,13 @@
 // Sample words: the fraction, the exponent and the off-rule mark of a word in each of the six multiplexed codes.
 ghost use mathlib.Core.Path.{_≡_};
 ghost use Prim.Native.Nat.{_<_, _≤_, _^_, _*_, _+_, _-_, _%_};
-ghost use mathlib.Core.Bool.{_||_};
+ghost use mathlib.Core.Bool.{_&&_, _||_};
 ghost use lib.Dec.{ltb};
 ghost use Rattle.basis.specs.Fields.{field};
-ghost use Rattle.codes.specs.Codes.{Fit, row};
-ghost use Rattle.words.specs.Entries.{unpackOf, tabled, marked, entryIn, spelled, wordBy};
-ghost use Rattle.words.specs.Words.{kept, fractionOf, powerOf, lastBit, negativeZero, allOnes, signedZero, notJustified, kindFault, offRule, sampleIn, wordIn, wordOf, valued, valueOf};
+ghost use Rattle.codes.specs.Codes.{SoundRow, row};
+ghost use Rattle.codes.specs.declared.Kind.the-variants.{OnesComplement, SignMagnitude, Justified};
+ghost use Rattle.words.specs.Entries.{signedOf, onesOf, offByte, entryIn, entryOf, tabled, wordBy};
+ghost use Rattle.words.specs.Words.{fractionOf, powerOf, lastBit, negativeZero, allOnes, offRule, sampleIn, wordIn, wordOf, valued, valueOf};
 use codes::Found;
 use codes::Kind;
 use codes::Row;
@@ -50,24 +51,49 @@ fn bits(word: u32, at: u32, size: u32) -> u32
     (word >> at) & ones(size)
 }
 
-// The sign's weight: what a set sign takes from Q, Q itself and the magnitude that it keeps.
-fn weight(kind: Kind, n: u32, q: u32) -> u32
-    requires { ⌜ (n < 31) × (q < 2 ^ n) ⌝ }
-    ensures { λ r. ⌜ (r ≡ q + kept kind n q) × (r < 2 ^ 31) ⌝ }
+// M of a fraction whose negatives are complemented. Two ways to the same number: where exponents stand apart, Q + S is
+// what the mark of a negative zero wants too; elsewhere that way has LLVM take words by twos and not by fours.
+fn complemented(apart: u32, n: u32, s: u32, q: u32) -> i32
+    requires { ⌜ (n < 31) × (s < 2) × (q < 2 ^ n) ⌝ }
+    ensures { λ r. ⌜ r ≡ fractionOf OnesComplement n s q ⌝ }
 {
-    match kind {
-        Kind::OnesComplement => ones(n),
-        Kind::SignMagnitude => q + q,
-        Kind::Justified => q + q,
+    if apart == 0 {
+        basis::difference(q, s * ones(n))
+    } else {
+        basis::difference(q + s, s * two_to(n))
     }
 }
 
-// No branch: a sample's sign is predicted badly.
-fn fraction(kind: Kind, n: u32, s: u32, q: u32) -> i32
+// M of a magnitude with a sign: Q less twice itself.
+fn doubled(n: u32, s: u32, q: u32) -> i32
+    requires { ⌜ (n < 31) × (s < 2) × (q < 2 ^ n) ⌝ }
+    ensures { λ r. ⌜ r ≡ fractionOf SignMagnitude n s q ⌝ }
+{
+    basis::difference(q, s * (q + q))
+}
+
+// The same of the widest fraction, as a choice: LLVM makes two instructions of it, and no branch.
+fn with_sign(n: u32, s: u32, q: u32) -> i32
+    requires { ⌜ (n < 31) × (s < 2) × (q < 2 ^ n) ⌝ }
+    ensures { λ r. ⌜ r ≡ fractionOf Justified n s q ⌝ }
+{
+    if s == 0 {
+        basis::difference(q, 0)
+    } else {
+        basis::difference(0, q)
+    }
+}
+
+// No branch on a sample's sign, which is predicted badly.
+fn fraction(kind: Kind, apart: u32, n: u32, s: u32, q: u32) -> i32
     requires { ⌜ (n < 31) × (s < 2) × (q < 2 ^ n) ⌝ }
     ensures { λ r. ⌜ r ≡ fractionOf kind n s q ⌝ }
 {
-    basis::difference(q, s * weight(kind, n, q))
+    match kind {
+        Kind::OnesComplement => complemented(apart, n, s, q),
+        Kind::SignMagnitude => doubled(n, s, q),
+        Kind::Justified => with_sign(n, s, q),
+    }
 }
 
 fn power(base: u32, bias: u32, n: u32, e: u32) -> i32
@@ -77,7 +103,7 @@ fn power(base: u32, bias: u32, n: u32, e: u32) -> i32
     basis::difference(base * e, base * bias + n)
 }
 
-// The faults: straight lines, since a branch on a sample's bits is predicted badly.
+// What is off rule: straight lines, since a branch on a sample's bits is predicted badly.
 fn last_bit(last: u32) -> bool
     ensures { λ r. ⌜ r ≡ lastBit last ⌝ }
 {
@@ -91,37 +117,32 @@ fn negative_zero(n: u32, s: u32, q: u32) -> bool
     s + q == two_to(n)
 }
 
+// Each part is at most all ones, so that one sum says it of all three.
 fn all_ones(n: u32, b: u32, s: u32, e: u32, q: u32) -> bool
-    requires { ⌜ (n < 32) × (b < 32) ⌝ }
+    requires { ⌜ (b < 31) × (n < 31) × (s < 2) × (e < 2 ^ b) × (q < 2 ^ n) ⌝ }
     ensures { λ r. ⌜ r ≡ allOnes n b s e q ⌝ }
 {
-    (s == 1) & ((e == ones(b)) & (q == ones(n)))
+    s + e + q == 1 + ones(b) + ones(n)
 }
 
-// Both faults of a justified fraction: the word is not zero, and the first four bits of Q are.
-fn unjustified(n: u32, s: u32, e: u32, q: u32) -> bool
-    requires { ⌜ (4 ≤ n) × (n < 31) × (s + e < 2 ^ 31) × (q < 2 ^ n) ⌝ }
-    ensures { λ r. ⌜ r ≡ (signedZero s e q || notJustified n q) ⌝ }
+// Every way in which a justified fraction is off rule: the word is not zero, and a bit below Q is set or the first four bits of Q are zero.
+fn unjustified(n: u32, some: bool, last: u32, q: u32) -> bool
+    requires { ⌜ (4 ≤ n) × (n < 31) ⌝ }
+    ensures { λ r. ⌜ r ≡ (some && (lastBit last || ltb q (2 ^ (n - 4)))) ⌝ }
 {
-    (0 < s + e + q) & (q < two_to(n - 4))
+    some & (last_bit(last) | (q < two_to(n - 4)))
 }
 
-fn kind_fault(kind: Kind, n: u32, b: u32, s: u32, e: u32, q: u32) -> bool
-    requires { ⌜ (4 ≤ n) × (n < 31) × (b < 32) × (s < 2) × (s + e < 2 ^ 31) × (q < 2 ^ n) ⌝ }
-    ensures { λ r. ⌜ r ≡ kindFault kind n b s e q ⌝ }
-{
-    match kind {
-        Kind::OnesComplement => negative_zero(n, s, q),
-        Kind::SignMagnitude => all_ones(n, b, s, e, q),
-        Kind::Justified => unjustified(n, s, e, q),
-    }
-}
-
-fn off_rule(kind: Kind, n: u32, b: u32, last: u32, s: u32, e: u32, q: u32) -> bool
-    requires { ⌜ (4 ≤ n) × (n < 31) × (b < 32) × (s < 2) × (s + e < 2 ^ 31) × (q < 2 ^ n) ⌝ }
+// By the parts of a word, and whether any bit of it is set.
+fn off_rule(kind: Kind, n: u32, b: u32, some: bool, last: u32, s: u32, e: u32, q: u32) -> bool
+    requires { ⌜ (4 ≤ n) × (n < 31) × (b < 31) × (s < 2) × (e < 2 ^ b) × (q < 2 ^ n) × (some ≡ ltb 0 (last + (s + e + q))) ⌝ }
     ensures { λ r. ⌜ r ≡ offRule kind n b last s e q ⌝ }
 {
-    last_bit(last) | kind_fault(kind, n, b, s, e, q)
+    match kind {
+        Kind::OnesComplement => last_bit(last) | negative_zero(n, s, q),
+        Kind::SignMagnitude => last_bit(last) | all_ones(n, b, s, e, q),
+        Kind::Justified => unjustified(n, some, last, q),
+    }
 }
 
 // A word's sample, by the columns of a row; c is the exponent apart from it.
@@ -137,21 +158,22 @@ fn sample(
     c: u32,
     word: u32,
 ) -> Word
-    requires { ⌜ (1 + b + n ≤ width) × (width ≤ 32) × (apart ≤ b) × (apart ≤ 4) × (4 ≤ n) × (n ≤ 23) × (b ≤ 7) × (base ≤ 4) × (bias ≤ 64) × (c < 16) ⌝ }
+    requires { ⌜ (1 + b + n ≤ width) × (width ≤ 32) × (apart ≤ b) × (apart ≤ 4) × (4 ≤ n) × (n ≤ 23) × (b ≤ 7) × (base ≤ 4) × (bias ≤ 64) × (c < 2 ^ apart) × (word < 2 ^ (width - apart)) ⌝ }
     ensures { λ r. ⌜ r ≡ sampleIn (row 0 width apart n base b bias kind) c word ⌝ }
 {
     let spare = width - 1 - b - n;
     let s = bits(word, width - apart - 1, 1);
     let e = c + bits(word, spare + n, b - apart);
     let q = bits(word, spare, n);
-    let m = fraction(kind, n, s, q);
+    let m = fraction(kind, apart, n, s, q);
     let x = power(base, bias, n, e);
-    let off = off_rule(kind, n, b, bits(word, 0, spare), s, e, q);
+    let some = (0 < c) | (0 < word);
+    let off = off_rule(kind, n, b, some, bits(word, 0, spare), s, e, q);
     Word::Sample { m, x, off }
 }
 
 // Whether a number has at most `w` bits.
-fn within(word: u32, w: u32) -> bool
+fn has_bits(word: u32, w: u32) -> bool
     requires { ⌜ w ≤ 32 ⌝ }
     ensures { λ r. ⌜ r ≡ ltb word (2 ^ w) ⌝ }
 {
@@ -162,14 +184,14 @@ fn within(word: u32, w: u32) -> bool
 }
 
 fn of_row(row: Row, c: u32, word: u32) -> Word
-    requires { ⌜ Fit row ⌝ }
+    requires { ⌜ SoundRow row ⌝ }
     ensures { λ r. ⌜ r ≡ wordIn row c word ⌝ }
 {
     if 0x8000 <= row.code {
         return Word::Refused(Refusal::Demux);
     }
-    if within(c, row.apart) {
-        if within(word, row.width - row.apart) {
+    if has_bits(c, row.apart) {
+        if has_bits(word, row.width - row.apart) {
             let kind = row.kind;
             return sample(
                 kind,
@@ -187,22 +209,59 @@ fn of_row(row: Row, c: u32, word: u32) -> Word
     Word::Refused(Refusal::Index)
 }
 
-fn unpack(entry: u16) -> Word
-    ensures { λ r. ⌜ r ≡ unpackOf entry ⌝ }
+// The number that 32 bits are in two's complement.
+fn signed(n: u32) -> i32
+    ensures { λ r. ⌜ r ≡ signedOf n ⌝ }
 {
-    let m = basis::difference((entry / 64) as u32, 32);
-    let x = basis::difference((entry / 2 % 32) as u32, 16);
-    let off = entry % 2 == 1;
+    if n < 0x8000_0000 {
+        return n as i32;
+    }
+    -1 - ((0xFFFF_FFFF - n) as i32)
+}
+
+// The bits that are all set in a code's off-rule words of one byte.
+fn marks(code: u16) -> u8
+    ensures { λ r. ⌜ r ≡ onesOf code ⌝ }
+{
+    if code == 0x0022 { 0x8F } else { 0xFF }
+}
+
+// Whether a word of one byte is off rule: told by the byte, so that a loop can look at many at a time.
+pub fn off_byte(code: u16, b: u8) -> bool
+    ensures { λ r. ⌜ r ≡ offByte code b ⌝ }
+{
+    let ones = marks(code);
+    b & ones == ones
+}
+
+// A byte's entry; 0 in a table that has not all of them.
+fn entry(table: &[u64], b: u8) -> u64
+    ensures { λ r. ⌜ r ≡ entryIn (now (table .entry)) b ⌝ }
+{
+    if table.len() < 256 {
+        return 0;
+    }
+    table[b as usize]
+}
+
+// The word of a byte, whose entry's halves are M and X as they stand.
+fn unpack(code: u16, table: &[u64], b: u8) -> Word
+    ensures { λ r. ⌜ r ≡ entryOf code (now (table .entry)) b ⌝ }
+{
+    let e = entry(table, b);
+    let m = signed((e % 0x1_0000_0000) as u32);
+    let x = signed((e / 0x1_0000_0000) as u32);
+    let off = off_byte(code, b);
     Word::Sample { m, x, off }
 }
 
 // A one-byte word, by its code's table.
-fn by_table(table: &[u16; 256], c: u32, word: u32) -> Word
-    ensures { λ r. ⌜ r ≡ tabled (now (table .entry)) c word ⌝ }
+fn by_table(code: u16, table: &[u64], c: u32, word: u32) -> Word
+    ensures { λ r. ⌜ r ≡ tabled code (now (table .entry)) c word ⌝ }
 {
     if c == 0 {
         if word < 256 {
-            return unpack(table[word as usize]);
+            return unpack(code, table, word as u8);
         }
     }
     Word::Refused(Refusal::Index)
@@ -211,13 +270,13 @@ fn by_table(table: &[u16; 256], c: u32, word: u32) -> Word
 fn byte22(c: u32, word: u32) -> Word
     ensures { λ r. ⌜ r ≡ wordOf 0x0022 c word ⌝ }
 {
-    by_table(&TABLE_22, c, word)
+    by_table(0x0022, &TABLE_22, c, word)
 }
 
 fn byte42(c: u32, word: u32) -> Word
     ensures { λ r. ⌜ r ≡ wordOf 0x0042 c word ⌝ }
 {
-    by_table(&TABLE_42, c, word)
+    by_table(0x0042, &TABLE_42, c, word)
 }
 
 // The sample that a word of a format code is, with the exponent c that stands apart from it (0015; elsewhere 0).
@@ -250,44 +309,11 @@ fn worth(w: Word) -> Value
     }
 }
 
-// Whether a mark is that of an off-rule word.
-fn is_marked(mark: i32) -> bool
-    ensures { λ r. ⌜ r ≡ marked mark ⌝ }
-{
-    if mark == 0 { false } else { true }
-}
-
-// A byte's entry in a table spelled out: M and X of each byte in turn, then the off-rule marks of all.
-fn entry(table: &[i32], b: usize) -> Word
-    requires { ⌜ b < 256 ⌝ }
-    ensures { λ r. ⌜ r ≡ entryIn (now (table .entry)) b ⌝ }
-{
-    if table.len() < 768 {
-        return Word::Refused(Refusal::Index);
-    }
-    let m = table[2 * b];
-    let x = table[2 * b + 1];
-    let off = is_marked(table[512 + b]);
-    Word::Sample { m, x, off }
-}
-
-// A one-byte word, by its code's table spelled out.
-fn by_entries(table: &[i32], c: u32, word: u32) -> Word
-    ensures { λ r. ⌜ r ≡ spelled (now (table .entry)) c word ⌝ }
-{
-    if c == 0 {
-        if word < 256 {
-            return entry(table, word as usize);
-        }
-    }
-    Word::Refused(Refusal::Index)
-}
-
-fn word_by(row: Row, table: &[i32], c: u32, word: u32) -> Word
+fn word_by(row: Row, table: &[u64], c: u32, word: u32) -> Word
     ensures { λ r. ⌜ r ≡ wordBy (now (table .entry)) row c word ⌝ }
 {
     if row.width == 8 {
-        return by_entries(table, c, word);
+        return by_table(row.code, table, c, word);
     }
     if codes::sound(row) {
         of_row(row, c, word)
@@ -296,25 +322,18 @@ fn word_by(row: Row, table: &[i32], c: u32, word: u32) -> Word
     }
 }
 
-// A word's sample, by its code's row, and by the table lent, spelled out, where the row's words are of one byte.
-pub fn read(row: Row, table: &[i32], c: u32, word: u32) -> Value
+// A word's sample, by its code's row, and by the table lent where the row's words are of one byte.
+pub fn read(row: Row, table: &[u64], c: u32, word: u32) -> Value
     ensures { λ r. ⌜ r ≡ valued (wordBy (now (table .entry)) row c word) ⌝ }
 {
     worth(word_by(row, table, c, word))
 }
 
-// A one-byte word's sample, by its code's table.
-pub fn by_byte(table: &[u16; 256], b: u8) -> Value
-    ensures { λ r. ⌜ r ≡ valued (tabled (now (table .entry)) 0 b) ⌝ }
+// A one-byte word's sample, by the table lent.
+pub fn by_entry(code: u16, table: &[u64], b: u8) -> Value
+    ensures { λ r. ⌜ r ≡ valued (tabled code (now (table .entry)) 0 b) ⌝ }
 {
-    worth(by_table(table, 0, b as u32))
-}
-
-// The same by the table spelled out, whose numbers are not taken apart.
-pub fn by_entry(table: &[i32], b: u8) -> Value
-    ensures { λ r. ⌜ r ≡ valued (spelled (now (table .entry)) 0 b) ⌝ }
-{
-    worth(by_entries(table, 0, b as u32))
+    worth(by_table(code, table, 0, b as u32))
 }
 
 // A word of 0015, with the exponent in the lowest four bits of c.

@@ -22,26 +22,26 @@ abbrev μ-loop : tie.MeasureT-loop
 loop-holds : tie.Need-loop-holds Inv-loop μ-loop
 loop-holds c = done-none _ _ _ _ (c .before .pre)
 
-mul-pair : tie.Need-mul-pair Inv-loop μ-loop
-mul-pair c = omega arith
+mul-big2 : tie.Need-mul-big2 Inv-loop μ-loop
+mul-big2 c = omega arith
 
-pair-requires : tie.Need-pair-requires Inv-loop μ-loop
-pair-requires c κs = omega arith
+big2-requires : tie.Need-big2-requires Inv-loop μ-loop
+big2-requires c κs = omega arith
 
 cast-exponents : tie.Need-cast-exponents Inv-loop μ-loop
 cast-exponents c = omega arith
 
 sample15-requires : tie.Need-sample15-requires Inv-loop μ-loop
-sample15-requires c κs = (omega arith, (omega arith, (omega arith, c .before .pair .ensures)))
+sample15-requires c κs = (omega arith, (omega arith, (omega arith, c .before .big2 .ensures)))
 
 sample15-requires-2 : tie.Need-sample15-requires-2 Inv-loop μ-loop
-sample15-requires-2 c κs = (omega arith, (omega arith, (omega arith, c .before .before .before .before .pair .ensures)))
+sample15-requires-2 c κs = (omega arith, (omega arith, (omega arith, c .before .before .before .before .big2 .ensures)))
 
 sample15-requires-3 : tie.Need-sample15-requires-3 Inv-loop μ-loop
-sample15-requires-3 c κs = (omega arith, (omega arith, (omega arith, c .before .before .before .before .before .before .before .pair .ensures)))
+sample15-requires-3 c κs = (omega arith, (omega arith, (omega arith, c .before .before .before .before .before .before .before .big2 .ensures)))
 
 sample15-requires-4 : tie.Need-sample15-requires-4 Inv-loop μ-loop
-sample15-requires-4 c κs = (omega arith, (omega arith, (omega arith, c .before .before .before .before .before .before .before .before .before .before .pair .ensures)))
+sample15-requires-4 c κs = (omega arith, (omega arith, (omega arith, c .before .before .before .before .before .before .before .before .before .before .big2 .ensures)))
 
 add-off : tie.Need-add-off Inv-loop μ-loop
 add-off c = omega (arith, counted-low _ (c .before .before .before .before .before .before .before .before .before .before .sample15 .ensures .0))
@@ -83,8 +83,8 @@ groups-spec =
     Inv-loop
     μ-loop
     loop-holds
-    mul-pair
-    pair-requires
+    mul-big2
+    big2-requires
     cast-exponents
     sample15-requires
     sample15-requires-2

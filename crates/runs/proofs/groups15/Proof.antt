@@ -32,11 +32,11 @@ mul-k c = omega arith
 loop-holds : tie.Need-loop-holds Inv-loop μ-loop
 loop-holds c = done-self (done-from _ _ _ _ _ (c .before .before .before .least .ensures) (omega arith) (c .before .groups .ensures .0) (c .before .groups .ensures .1))
 
-exponent-requires : tie.Need-exponent-requires Inv-loop μ-loop
-exponent-requires c κs = omega arith
+group-exponent-requires : tie.Need-group-exponent-requires Inv-loop μ-loop
+group-exponent-requires c κs = omega arith
 
-fraction-requires : tie.Need-fraction-requires Inv-loop μ-loop
-fraction-requires c κs = omega arith
+group-word-requires : tie.Need-group-word-requires Inv-loop μ-loop
+group-word-requires c κs = omega arith
 
 value15-requires : tie.Need-value15-requires Inv-loop μ-loop
 value15-requires c κs = tt
@@ -56,7 +56,7 @@ loop-less c = omega arith
 loop-again : tie.Need-loop-again Inv-loop μ-loop
 unfolding groupedValue
 loop-again c =
-    rw (c .before .put .ensures) (done-more (c .before .before .before .before .before .before .before .before .loop .inv) (c .before .before .before .before .before .before .before .loop-test .taken) (c .before .before .before .before .value15 .ensures ∙ rw (c .before .before .before .before .before .fraction .ensures, c .before .before .before .before .before .before .exponent .ensures)) (c .before .before .before .count .ensures))
+    rw (c .before .put .ensures) (done-more (c .before .before .before .before .before .before .before .before .loop .inv) (c .before .before .before .before .before .before .before .loop-test .taken) (c .before .before .before .before .value15 .ensures ∙ rw (c .before .before .before .before .before .group-word .ensures, c .before .before .before .before .before .before .group-exponent .ensures)) (c .before .before .before .count .ensures))
 
 same-length : tie.Need-same-length Inv-loop μ-loop
 same-length c = search (needs, c .before .loop .inv .same)
@@ -79,8 +79,8 @@ groups15-spec =
     groups-requires
     mul-k
     loop-holds
-    exponent-requires
-    fraction-requires
+    group-exponent-requires
+    group-word-requires
     value15-requires
     count-requires
     put-requires

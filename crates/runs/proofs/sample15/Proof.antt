@@ -20,20 +20,20 @@ sub-value15 c = search needs
 shr-value15 : tie.Need-shr-value15
 shr-value15 c = search needs
 
-mul-pair : tie.Need-mul-pair
-mul-pair c = search needs
+mul-big2 : tie.Need-mul-big2
+mul-big2 c = search needs
 
-add-pair : tie.Need-add-pair
-add-pair c = search needs
+add-big2 : tie.Need-add-big2
+add-big2 c = search needs
 
-mul-pair-2 : tie.Need-mul-pair-2
-mul-pair-2 c = search needs
+mul-big2-2 : tie.Need-mul-big2-2
+mul-big2-2 c = search needs
 
-add-pair-2 : tie.Need-add-pair-2
-add-pair-2 c = search needs
+add-big2-2 : tie.Need-add-big2-2
+add-big2-2 c = search needs
 
-pair-requires : tie.Need-pair-requires
-pair-requires c κs = search needs
+big2-requires : tie.Need-big2-requires
+big2-requires c κs = search needs
 
 value15-requires : tie.Need-value15-requires
 value15-requires c κs = search needs
@@ -56,7 +56,7 @@ same-length c = search needs
 returns : tie.Need-returns
 returns c =
     let z = c .before .before .before .before .before .before .before in
-    let v = rw (c .before .before .before .before .before .pair .ensures, z .pre .1 .1 .1) at (c .before .before .before .before .value15 .ensures) in
+    let v = rw (c .before .before .before .before .before .big2 .ensures, z .pre .1 .1 .1) at (c .before .before .before .before .value15 .ensures) in
     let w = v ∙ group-value (now (z .args .bytes)) (z .args .g) (z .args .j) (z .pre .0) in
     (rw (← w) (c .count .ensures ∙ zero-add _), rw (← w) (c .before .before .put .ensures))
 
@@ -68,11 +68,11 @@ sample15-spec =
     mul-value15
     sub-value15
     shr-value15
-    mul-pair
-    add-pair
-    mul-pair-2
-    add-pair-2
-    pair-requires
+    mul-big2
+    add-big2
+    mul-big2-2
+    add-big2-2
+    big2-requires
     value15-requires
     mul-put
     add-put

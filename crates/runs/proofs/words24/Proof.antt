@@ -23,11 +23,11 @@ least-requires c κs = tt
 loop-holds : tie.Need-loop-holds Inv-loop μ-loop
 loop-holds c = done-none _ _ _ _ (c .least .ensures)
 
-mul-pair : tie.Need-mul-pair Inv-loop μ-loop
-mul-pair c = omega arith
+mul-big2 : tie.Need-mul-big2 Inv-loop μ-loop
+mul-big2 c = omega arith
 
-pair-requires : tie.Need-pair-requires Inv-loop μ-loop
-pair-requires c κs = omega arith
+big2-requires : tie.Need-big2-requires Inv-loop μ-loop
+big2-requires c κs = omega arith
 
 value24-requires : tie.Need-value24-requires Inv-loop μ-loop
 value24-requires c κs = tt
@@ -47,7 +47,7 @@ loop-less c = omega arith
 loop-again : tie.Need-loop-again Inv-loop μ-loop
 unfolding plainValue
 loop-again c =
-    rw (c .before .put .ensures) (done-more (c .before .before .before .before .before .before .before .loop .inv) (c .before .before .before .before .before .before .loop-test .taken) (c .before .before .before .before .value24 .ensures ∙ rw (c .before .before .before .before .before .pair .ensures)) (c .before .before .before .count .ensures))
+    rw (c .before .put .ensures) (done-more (c .before .before .before .before .before .before .before .loop .inv) (c .before .before .before .before .before .before .loop-test .taken) (c .before .before .before .before .value24 .ensures ∙ rw (c .before .before .before .before .before .big2 .ensures)) (c .before .before .before .count .ensures))
 
 same-length : tie.Need-same-length Inv-loop μ-loop
 same-length c = c .before .loop .inv .same
@@ -63,8 +63,8 @@ words24-spec =
     μ-loop
     least-requires
     loop-holds
-    mul-pair
-    pair-requires
+    mul-big2
+    big2-requires
     value24-requires
     count-requires
     put-requires

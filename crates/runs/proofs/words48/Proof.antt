@@ -23,11 +23,11 @@ least-requires c κs = tt
 loop-holds : tie.Need-loop-holds Inv-loop μ-loop
 loop-holds c = done-none _ _ _ _ (c .least .ensures)
 
-mul-four : tie.Need-mul-four Inv-loop μ-loop
-mul-four c = omega arith
+mul-big4 : tie.Need-mul-big4 Inv-loop μ-loop
+mul-big4 c = omega arith
 
-four-requires : tie.Need-four-requires Inv-loop μ-loop
-four-requires c κs = omega arith
+big4-requires : tie.Need-big4-requires Inv-loop μ-loop
+big4-requires c κs = omega arith
 
 value48-requires : tie.Need-value48-requires Inv-loop μ-loop
 value48-requires c κs = tt
@@ -47,7 +47,7 @@ loop-less c = omega arith
 loop-again : tie.Need-loop-again Inv-loop μ-loop
 unfolding plainValue
 loop-again c =
-    rw (c .before .put .ensures) (done-more (c .before .before .before .before .before .before .before .loop .inv) (c .before .before .before .before .before .before .loop-test .taken) (c .before .before .before .before .value48 .ensures ∙ rw (c .before .before .before .before .before .four .ensures)) (c .before .before .before .count .ensures))
+    rw (c .before .put .ensures) (done-more (c .before .before .before .before .before .before .before .loop .inv) (c .before .before .before .before .before .before .loop-test .taken) (c .before .before .before .before .value48 .ensures ∙ rw (c .before .before .before .before .before .big4 .ensures)) (c .before .before .before .count .ensures))
 
 same-length : tie.Need-same-length Inv-loop μ-loop
 same-length c = c .before .loop .inv .same
@@ -63,8 +63,8 @@ words48-spec =
     μ-loop
     least-requires
     loop-holds
-    mul-four
-    four-requires
+    mul-big4
+    big4-requires
     value48-requires
     count-requires
     put-requires

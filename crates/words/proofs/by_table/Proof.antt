@@ -7,18 +7,15 @@ use borrow.Author.Needs.{needs}
 use Rattle.words.proofs.by_table.Statement.{statement}
 use Rattle.words.proofs.by_table.Tie as tie
 
-mul-unpack : tie.Need-mul-unpack
-mul-unpack c = search needs
-
-element-copy-out-unpack : tie.Need-element-copy-out-unpack
-element-copy-out-unpack c = search needs
+cast-unpack : tie.Need-cast-unpack
+cast-unpack c = search needs
 
 unpack-requires : tie.Need-unpack-requires
 unpack-requires c κs = search needs
 
 returns : tie.Need-returns
 unfolding tabled pick
-returns c = simp (eq-eqb _ 0 (c .before .before .before .if1 .taken), lt-ltb _ 256 (c .before .before .if2 .taken)) (c .unpack .ensures)
+returns c = simp (eq-eqb _ 0 (c .before .before .if1 .taken), lt-ltb _ 256 (c .before .if2 .taken)) (c .unpack .ensures)
 
 returns-2 : tie.Need-returns-2
 unfolding tabled pick
@@ -29,6 +26,4 @@ unfolding tabled pick
 returns-3 c = simp (ne-eqb _ 0 (c .if1 .left))
 
 pub by-table-spec : {M : Type 1} → statement M
-by-table-spec =
-    tie.close
-    (tie.spec mul-unpack element-copy-out-unpack unpack-requires returns returns-2 returns-3)
+by-table-spec = tie.close (tie.spec cast-unpack unpack-requires returns returns-2 returns-3)

@@ -1,37 +1,43 @@
 -- `words::unpack` meets its contract.
 -- Assumes nothing.
-use Prim.Native.Nat.{_/_, _%_}
-use mathlib.Core.Path.{refl, _∙_}
-use native.Mathlib.Omega.{arith}
-use Rattle.basis.proofs.Numbers.{difference-is}
-use lib.Dec.{lit<}
+use mathlib.Core.Path.{_∙_}
+use Rattle.words.specs.Entries.{entryOf}
 use Rattle.words.proofs.Parts.{same-sample}
-use mathlib.Core.Path.{refl, _∙_}
-use Rattle.words.specs.Entries.{unpackOf}
 use borrow.Author.Needs.{needs}
 use Rattle.words.proofs.unpack.Statement.{statement}
 use Rattle.words.proofs.unpack.Tie as tie
 
-cast-difference : tie.Need-cast-difference
-cast-difference c = search needs
+entry-requires : tie.Need-entry-requires
+entry-requires c κs = search needs
 
-difference-requires : tie.Need-difference-requires
-difference-requires c κs = search needs
+cast-signed : tie.Need-cast-signed
+cast-signed c = search needs
 
-cast-difference-2 : tie.Need-cast-difference-2
-cast-difference-2 c = search needs
+signed-requires : tie.Need-signed-requires
+signed-requires c κs = search needs
 
-difference-requires-2 : tie.Need-difference-requires-2
-difference-requires-2 c κs = search needs
+cast-signed-2 : tie.Need-cast-signed-2
+cast-signed-2 c = search needs
+
+signed-requires-2 : tie.Need-signed-requires-2
+signed-requires-2 c κs = search needs
+
+off-byte-requires : tie.Need-off-byte-requires
+off-byte-requires c κs = search needs
 
 returns : tie.Need-returns
-unfolding unpackOf
+unfolding entryOf
 returns c =
-    let n = c .before .before .args .entry in
-    same-sample (search needs ∙ c .before .difference .ensures ∙ difference-is {a = n / 64} {b = 32} (omega arith) (lit< tt))
-    (search needs ∙ c .difference2 .ensures ∙ difference-is {a = n / 2 % 32} {b = 16} (omega arith) (lit< tt)) refl
+    rw (← c .before .before .before .entry .ensures) (same-sample (search needs ∙ c .before .before .signed .ensures) (search needs ∙ c .before .signed2 .ensures) (c .off-byte .ensures))
 
 pub unpack-spec : {M : Type 1} → statement M
 unpack-spec =
     tie.close
-    (tie.spec cast-difference difference-requires cast-difference-2 difference-requires-2 returns)
+    (tie.spec
+    entry-requires
+    cast-signed
+    signed-requires
+    cast-signed-2
+    signed-requires-2
+    off-byte-requires
+    returns)

@@ -9,12 +9,12 @@ use borrow.Author.Needs.{needs}
 use Rattle.words.proofs.word_by.Statement.{statement}
 use Rattle.words.proofs.word_by.Tie as tie
 
-by-entries-requires : tie.Need-by-entries-requires
-by-entries-requires c κs = search needs
+by-table-requires : tie.Need-by-table-requires
+by-table-requires c κs = search needs
 
 returns : tie.Need-returns
 unfolding wordBy pick
-returns c = search (tests, c .before .if1 .taken, c .by-entries .ensures)
+returns c = search (tests, c .before .if1 .taken, c .by-table .ensures)
 
 sound-requires : tie.Need-sound-requires
 sound-requires c κs = search needs
@@ -33,4 +33,4 @@ returns-3 c = search (tests, sym (c .before .sound .ensures) ∙ c .if2 .left, c
 pub word-by-spec : {M : Type 1} → statement M
 word-by-spec =
     tie.close
-    (tie.spec by-entries-requires returns sound-requires of-row-requires returns-2 returns-3)
+    (tie.spec by-table-requires returns sound-requires of-row-requires returns-2 returns-3)

@@ -13,12 +13,12 @@ use borrow.Author.Needs.{needs}
 use Rattle.body.proofs.ends.end.Statement.{statement}
 use Rattle.body.proofs.ends.end.Tie as tie
 
-stop-of-requires : tie.Need-stop-of-requires
-stop-of-requires c κs = search needs
+stop-refusal-requires : tie.Need-stop-refusal-requires
+stop-refusal-requires c κs = search needs
 
 returns : tie.Need-returns
 unfolding ended oneEnd halted answered pick
-returns c = search (tests, c .before .if1 .taken, c .stop-of .ensures)
+returns c = search (tests, c .before .if1 .taken, c .stop-refusal .ensures)
 
 div-due : tie.Need-div-due
 div-due c = search needs
@@ -46,4 +46,4 @@ returns-3 c = search (tests, sym (c .before .due .ensures) ∙ c .if2 .left, c .
 pub end-spec : {M : Type 1} → statement M
 end-spec =
     tie.close
-    (tie.spec stop-of-requires returns div-due rem-due due-requires add-t returns-2 returns-3)
+    (tie.spec stop-refusal-requires returns div-due rem-due due-requires add-t returns-2 returns-3)

@@ -9,15 +9,15 @@ use borrow.Author.Needs.{needs}
 use Rattle.body.proofs.ends.finish.Statement.{statement}
 use Rattle.body.proofs.ends.finish.Tie as tie
 
-stop-of-requires : tie.Need-stop-of-requires
-stop-of-requires c κs = search needs
+stop-refusal-requires : tie.Need-stop-refusal-requires
+stop-refusal-requires c κs = search needs
 
 refused-requires : tie.Need-refused-requires
 refused-requires c κs = search needs
 
 returns : tie.Need-returns
 unfolding finish pick
-returns c = search (tests, c .before .before .if1 .taken, c .refused .ensures, c .before .stop-of .ensures)
+returns c = search (tests, c .before .before .if1 .taken, c .refused .ensures, c .before .stop-refusal .ensures)
 
 rem-if2 : tie.Need-rem-if2
 rem-if2 c = search needs
@@ -62,7 +62,7 @@ pub finish-spec : {M : Type 1} → statement M
 finish-spec =
     tie.close
     (tie.spec
-    stop-of-requires
+    stop-refusal-requires
     refused-requires
     returns
     rem-if2

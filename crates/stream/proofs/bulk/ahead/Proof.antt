@@ -58,7 +58,7 @@ returns-4 c =
           λ h. record {
             fit = z .pre .0;
             stop = c .before .before .before .before .before .before .before .before .if1 .left;
-            width = refl;
+            group = refl;
             low = c .before .before .before .before .before .before .if2 .left;
             high = omega (arith, m, g .0);
             room = omega (arith, g .1, c .before .least .ensures, c .before .before .struct-known4 .given);

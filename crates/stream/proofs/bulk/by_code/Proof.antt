@@ -17,7 +17,7 @@ same-length c = search needs
 returns : tie.Need-returns
 unfolding valueIn perGroup pick
 returns c =
-    let z = c .before .before .before .before .before in
+    let z = c .before .before .before .before .before .before in
     let e = c .before .before .before .if1 .taken in
     let w = width-is 0x0024 _ (z .pre) e group24 in
     (rw (w, e) (c .before .words24 .ensures .0), rw (w, e) (c .before .words24 .ensures .1))
@@ -31,7 +31,7 @@ same-length-2 c = search needs
 returns-2 : tie.Need-returns-2
 unfolding valueIn perGroup pick
 returns-2 c =
-    let z = c .before .before .before .before .before .before in
+    let z = c .before .before .before .before .before .before .before in
     let e = c .before .before .before .if2 .taken in
     let w = width-is 0x0044 _ (z .pre) e group44 in
     (rw (w, e) (c .before .words44 .ensures .0), rw (w, e) (c .before .words44 .ensures .1))
@@ -45,7 +45,7 @@ same-length-3 c = search needs
 returns-3 : tie.Need-returns-3
 unfolding valueIn perGroup pick
 returns-3 c =
-    let z = c .before .before .before .before .before .before .before in
+    let z = c .before .before .before .before .before .before .before .before in
     let e = c .before .before .before .if3 .taken in
     let w = width-is 0x0048 _ (z .pre) e group48 in
     (rw (w, e) (c .before .words48 .ensures .0), rw (w, e) (c .before .words48 .ensures .1))
@@ -59,7 +59,7 @@ same-length-4 c = search needs
 returns-4 : tie.Need-returns-4
 unfolding valueIn perGroup pick
 returns-4 c =
-    let z = c .before .before .before .before .before .before .before .before in
+    let z = c .before .before .before .before .before .before .before .before .before in
     let e = c .before .before .before .if4 .taken in
     let w = width-is 0x0015 _ (z .pre) e group15 in
     (rw (w, e) (c .before .groups15 .ensures .0), rw (w, e) (c .before .groups15 .ensures .1))
@@ -73,7 +73,7 @@ same-length-5 c = search needs
 returns-5 : tie.Need-returns-5
 unfolding valueIn perGroup pick
 returns-5 c =
-    let z = c .before .before .before .before .before .before .before .before in
+    let z = c .before .before .before .before .before .before .before .before .before in
     let w = z .pre .only (c .before .before .before .before .before .before .if1 .left) (c .before .before .before .before .before .if2 .left) (c .before .before .before .before .if3 .left) (c .before .before .before .if4 .left) in
     let t = table-is (z .args .code) (z .args .w) (now (z .args .table)) (z .pre) w in
     (rw (w, ← t) (c .before .bytes-by .ensures .0), rw (w, ← t) (c .before .bytes-by .ensures .1))

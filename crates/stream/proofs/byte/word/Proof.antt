@@ -3,7 +3,7 @@
 use mathlib.Core.Path.{sym, _∙_}
 use native.Mathlib.Omega.{arith}
 use Rattle.stream.proofs.Readers.{read-group, read-pos, read-value}
-use Rattle.stream.proofs.Spots.{word-gives, word-leads, word-none, width-low}
+use Rattle.stream.proofs.Spots.{word-gives, word-leads, word-none, word-bytes-low}
 use borrow.Author.Needs.{needs}
 use Rattle.stream.proofs.byte.word.Statement.{statement}
 use Rattle.stream.proofs.byte.word.Tie as tie
@@ -16,20 +16,20 @@ shift-requires c κs = search needs
 
 word-ends-requires : tie.Need-word-ends-requires
 word-ends-requires c κs =
-    let z = c .before .before in
+    let z = c .before .before .before in
     (omega (arith, read-pos (z .pre .0), read-group (z .pre .0) ∙ sym (c .before .group-in .ensures)), z .pre .1 .2)
 
 exponent-requires : tie.Need-exponent-requires
 exponent-requires c κs = search needs
 
-width-requires : tie.Need-width-requires
-width-requires c κs = search needs
+word-bytes-requires : tie.Need-word-bytes-requires
+word-bytes-requires c κs = search needs
 
 low-requires : tie.Need-low-requires
 low-requires c κs =
-    let z = c .before .before .before .before .before .before in
+    let z = c .before .before .before .before .before .before .before in
     let g = read-group (z .pre .0) ∙ sym (c .before .before .before .before .before .group-in .ensures) in
-    rw (c .width .ensures) (width-low (z .args .s .shape .code) _ g (omega (arith, read-pos (z .pre .0), g)))
+    rw (c .word-bytes .ensures) (word-bytes-low (z .args .s .shape .code) _ g (omega (arith, read-pos (z .pre .0), g)))
 
 read-requires : tie.Need-read-requires
 read-requires c κs = search needs
@@ -39,9 +39,9 @@ sample-requires c κs = search needs
 
 returns : tie.Need-returns
 returns c =
-    let z = c .before .before .before .before .before .before .before .before .before in
+    let z = c .before .before .before .before .before .before .before .before .before .before in
     let e = word-gives (z .args .s) (z .args .b) _ (z .args .q) (read-group (z .pre .0) ∙ sym (c .before .before .before .before .before .before .before .before .group-in .ensures)) (sym (c .before .before .before .before .before .before .word-ends .ensures) ∙ c .before .before .before .before .before .if1 .taken) in
-    rw (c .sample .ensures, c .before .read .ensures ∙ read-value (z .pre .0) _ _, c .before .before .low .ensures, c .before .before .before .width .ensures, c .before .before .before .before .exponent .ensures, c .before .before .before .before .before .before .before .shift .ensures) (sym e)
+    rw (c .sample .ensures, c .before .read .ensures ∙ read-value (z .pre .0) _ _, c .before .before .low .ensures, c .before .before .before .word-bytes .ensures, c .before .before .before .before .exponent .ensures, c .before .before .before .before .before .before .before .shift .ensures) (sym e)
 
 leads-requires : tie.Need-leads-requires
 leads-requires c κs = search needs
@@ -57,7 +57,7 @@ still-requires c κs = search needs
 
 returns-2 : tie.Need-returns-2
 returns-2 c =
-    let z = c .before .before .before .before .before .before .before .before .before in
+    let z = c .before .before .before .before .before .before .before .before .before .before in
     let e = word-leads (z .args .s) (z .args .b) _ (z .args .q) (read-group (z .pre .0) ∙ sym (c .before .before .before .before .before .before .before .before .group-in .ensures)) (sym (c .before .before .before .before .before .before .word-ends .ensures) ∙ c .before .before .before .before .before .if1 .left) (sym (c .before .before .before .before .leads .ensures) ∙ c .before .before .before .if2 .taken) in
     rw (c .still .ensures, c .before .moved .ensures, c .before .before .low2 .ensures, c .before .before .before .before .before .before .before .shift .ensures) (sym e)
 
@@ -66,7 +66,7 @@ quiet-requires c κs = search needs
 
 returns-3 : tie.Need-returns-3
 returns-3 c =
-    let z = c .before .before .before .before .before .before .before in
+    let z = c .before .before .before .before .before .before .before .before in
     let e = word-none (z .args .s) (z .args .b) _ (z .args .q) (read-group (z .pre .0) ∙ sym (c .before .before .before .before .before .before .group-in .ensures)) (sym (c .before .before .before .before .word-ends .ensures) ∙ c .before .before .before .if1 .left) (sym (c .before .before .leads .ensures) ∙ c .before .if2 .left) in
     rw (c .quiet .ensures) (sym e)
 
@@ -78,7 +78,7 @@ word-spec =
     shift-requires
     word-ends-requires
     exponent-requires
-    width-requires
+    word-bytes-requires
     low-requires
     read-requires
     sample-requires

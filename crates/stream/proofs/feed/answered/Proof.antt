@@ -11,12 +11,12 @@ returns : tie.Need-returns
 unfolding answered pick
 returns c = search (tests, c .if1 .taken)
 
-stop-of-requires : tie.Need-stop-of-requires
-stop-of-requires c κs = search needs
+stop-refusal-requires : tie.Need-stop-refusal-requires
+stop-refusal-requires c κs = search needs
 
 returns-2 : tie.Need-returns-2
 unfolding answered pick
-returns-2 c = search (tests, c .before .if1 .left, c .stop-of .ensures)
+returns-2 c = search (tests, c .before .if1 .left, c .stop-refusal .ensures)
 
 pub answered-spec : {M : Type 1} → statement M
-answered-spec = tie.close (tie.spec returns stop-of-requires returns-2)
+answered-spec = tie.close (tie.spec returns stop-refusal-requires returns-2)

@@ -1,22 +1,13 @@
 -- `stream::feed::by_bytes` meets its contract.
 -- Assumes nothing.
-use mathlib.Core.Path.{sym}
+use Rattle.words.proofs.Reader.{is-42}
 use Rattle.scan.proofs.Shapes.{shape-parts}
-use Rattle.stream.proofs.Spelling.{reads-code}
 use borrow.Author.Needs.{needs}
 use Rattle.stream.proofs.feed.by_bytes.Statement.{statement}
 use Rattle.stream.proofs.feed.by_bytes.Tie as tie
 
-spell-code-requires : tie.Need-spell-code-requires
-spell-code-requires c κs = search needs
-
-slice-aggregate-take : tie.Need-slice-aggregate-take
-slice-aggregate-take c = sym (c .before .spell-code .ensures .long)
-
-take-requires : tie.Need-take-requires
-take-requires c κs =
-    let z = c .before .before .before .before .before in
-    (reads-code (z .pre .0 .0) (z .pre .0 .1) (shape-parts (z .args .s .shape) (z .pre .1 .shape) .code) (c .before .before .spell-code .ensures), z .pre .1)
+by-22-requires : tie.Need-by-22-requires
+by-22-requires c κs = search needs
 
 same-length : tie.Need-same-length
 same-length c = search needs
@@ -24,6 +15,18 @@ same-length c = search needs
 returns : tie.Need-returns
 returns c = search needs
 
+by-42-requires : tie.Need-by-42-requires
+by-42-requires c κs =
+    let z = c .before .before .before .before in
+    let code = shape-parts (z .args .s .shape) (z .pre .1 .shape) .code in
+    ((z .pre .0 .0, z .pre .0 .1, is-42 _ _ (z .pre .0 .0) (z .pre .0 .1) code (c .before .if1 .left)), z .pre .1)
+
+same-length-2 : tie.Need-same-length-2
+same-length-2 c = search needs
+
+returns-2 : tie.Need-returns-2
+returns-2 c = search needs
+
 pub by-bytes-spec : {M : Type 1} → statement M
 by-bytes-spec =
-    tie.close (tie.spec spell-code-requires slice-aggregate-take take-requires same-length returns)
+    tie.close (tie.spec by-22-requires same-length returns by-42-requires same-length-2 returns-2)

@@ -30,14 +30,14 @@ group-in-requires c κs =
 
 loop-holds : tie.Need-loop-holds Inv-loop μ-loop
 loop-holds c =
-    let z = c .before .before in
+    let z = c .before .before .before in
     going-start (now (z .args .bytes)) (now (z .args .out)) (z .args .s) (z .pre .1 .0)
 
 ahead-at-requires : tie.Need-ahead-at-requires Inv-loop μ-loop
 ahead-at-requires c κs =
     let a = c .before in
     let g = a .before in
-    (a .loop .inv .fit, rw (a .loop .inv .shape) (read-group (g .before .before .pre .0) ∙ sym (g .group-in .ensures)), a .loop .inv .in-bytes)
+    (a .loop .inv .fit, rw (a .loop .inv .shape) (read-group (g .before .before .before .pre .0) ∙ sym (g .group-in .ensures)), a .loop .inv .in-bytes)
 
 shared-slice-read-step : tie.Need-shared-slice-read-step Inv-loop μ-loop
 shared-slice-read-step c =
@@ -46,24 +46,24 @@ shared-slice-read-step c =
 step-requires : tie.Need-step-requires Inv-loop μ-loop
 step-requires c κs =
     let a = c .before .before .before .before in
-    (rw (a .loop .inv .shape) (a .before .before .before .pre .0), a .loop .inv .fit)
+    (rw (a .loop .inv .shape) (a .before .before .before .before .pre .0), a .loop .inv .fit)
 
 add-i : tie.Need-add-i Inv-loop μ-loop
 add-i c =
-    omega (arith, c .before .before .before .before .before .loop-test .taken, c .before .before .before .before .before .before .before .before .before .good)
+    omega (arith, c .before .before .before .before .before .loop-test .taken, c .before .before .before .before .before .before .before .before .before .before .good)
 
 put-requires : tie.Need-put-requires Inv-loop μ-loop
 put-requires c κs =
     let a = c .before .before .before .before .before .before .before .before .before in
     let b = a .loop in
-    let z = a .before .before .before in
+    let z = a .before .before .before .before in
     omega (arith, b .inv, z .pre .1 .1, c .before .before .before .before .before .before .before .before .loop-test .taken)
 
 add-n : tie.Need-add-n Inv-loop μ-loop
 add-n c =
     let a = c .before .before .before .before .before .before .before .before .before .before .before in
     let b = a .loop in
-    let z = a .before .before .before in
+    let z = a .before .before .before .before in
     omega (arith, b .inv, z .pre .1 .1, z .good, c .before .before .before .before .before .before .before .before .before .before .loop-test .taken)
 
 loop-less : tie.Need-loop-less Inv-loop μ-loop
@@ -74,7 +74,7 @@ loop-again : tie.Need-loop-again Inv-loop μ-loop
 loop-again c =
     let a = c .before .before .before .before .before .before .before .before .before .before .before in
     let b = a .loop in
-    let z = a .before .before .before in
+    let z = a .before .before .before .before in
     rw (c .before .put .ensures) (going-wrote (now (z .args .bytes)) (now (z .args .out)) (z .args .s) (b .out) (b .t) (b .n) (b .i) (c .before .before .before .before .before .before .step .result) (b .inv) (z .pre .1 .1) (c .before .before .before .before .before .before .before .before .before .before .loop-test .taken) (c .before .before .before .before .before .before .step .ensures) (c .before .before .before .before .if2 .taken))
 
 loop-less-2 : tie.Need-loop-less-2 Inv-loop μ-loop
@@ -85,7 +85,7 @@ loop-again-2 : tie.Need-loop-again-2 Inv-loop μ-loop
 loop-again-2 c =
     let a = c .before .before .before .before .before .before .before in
     let b = a .loop in
-    let z = a .before .before .before in
+    let z = a .before .before .before .before in
     going-quiet (now (z .args .bytes)) (now (z .args .out)) (z .args .s) (b .out) (b .t) (b .n) (b .i) (c .before .before .step .result) (b .inv) (c .before .before .before .before .before .before .loop-test .taken) (c .before .before .step .ensures) (c .if2 .left)
 
 take-at-requires : tie.Need-take-at-requires Inv-loop μ-loop
@@ -93,7 +93,7 @@ take-at-requires c κs =
     let a = c .before .before .before .before in
     let b = a .loop in
     let g = a .before in
-    let z = g .before .before in
+    let z = g .before .before .before in
     let h = c .before .before .ahead-at .ensures in
     let e = c .before .if1 .left in
     let w : groupOf (b .t .shape .code) ≡ g .group-in .result = rw (b .inv .shape) (read-group (z .pre .0) ∙ sym (g .group-in .ensures)) in
@@ -104,14 +104,14 @@ add-i-2 : tie.Need-add-i-2 Inv-loop μ-loop
 add-i-2 c =
     let a = c .before .before .before .before .before .before .before in
     let b = a .loop in
-    let z = a .before .before .before in
+    let z = a .before .before .before .before in
     omega (arith, c .before .before .before .before .before .ahead-at .ensures .within, b .inv .in-bytes, z .good)
 
 add-n-2 : tie.Need-add-n-2 Inv-loop μ-loop
 add-n-2 c =
     let a = c .before .before .before .before .before .before .before .before in
     let b = a .loop in
-    let z = a .before .before .before in
+    let z = a .before .before .before .before in
     let h = c .before .before .before .before .before .before .ahead-at .ensures in
     let r = c .before .before .before .take-at .ensures .0 in
     let l = chunk-length (b .t) (now (z .args .bytes)) (b .i) (c .before .before .before .before .before .before .ahead-at .result) (c .before .before .before .take-at .result) r in
@@ -121,7 +121,7 @@ loop-less-3 : tie.Need-loop-less-3 Inv-loop μ-loop
 loop-less-3 c =
     let a = c .before .before .before .before .before .before .before .before in
     let b = a .loop in
-    let z = a .before .before .before in
+    let z = a .before .before .before .before in
     let h = c .before .before .before .before .before .before .ahead-at .ensures .within in
     let e = c .before .before .before .before .before .if1 .left in
     omega (arith, h, e, c .before .before .before .before .before .before .before .loop-test .taken)
@@ -131,7 +131,7 @@ unfolding chunk chunkOut
 loop-again-3 c =
     let a = c .before .before .before .before .before .before .before .before in
     let b = a .loop in
-    let z = a .before .before .before in
+    let z = a .before .before .before .before in
     let h = c .before .before .before .before .before .before .ahead-at .ensures in
     let r = c .before .before .before .take-at .ensures in
     going-chunk (now (z .args .bytes)) (now (z .args .out)) (z .args .s) (b .out) (b .t) (b .n) (b .i) _ (b .inv) (z .pre .1 .1) (omega (arith, h .within, c .before .before .before .before .before .before .before .loop-test .taken)) _ _ _ (ap (λ (x : Chunk). x .state) (r .0)) (ap (λ (x : Chunk). x .wrote) (r .0)) (r .1)
@@ -149,7 +149,7 @@ unfolding fed
 returns c =
     let a = c .before .before in
     let b = a .loop in
-    let z = a .before .before .before in
+    let z = a .before .before .before .before in
     let g = going-end (now (z .args .bytes)) (now (z .args .out)) (z .args .s) (b .out) (b .t) (b .n) (b .i) (b .inv) (z .pre .1 .1) (c .before .loop-test .left) in
     (rw (c .answered .ensures, g .state, g .count), g .list)
 

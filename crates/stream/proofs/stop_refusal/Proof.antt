@@ -1,0 +1,30 @@
+-- `stream::stop_refusal` meets its contract.
+-- Assumes nothing.
+use Rattle.basis.specs.Choice.{pick}
+use borrow.Author.Tests.{eq-eqb, ne-eqb}
+use Rattle.stream.specs.Calls.{stopRefusal}
+use Rattle.stream.proofs.stop_refusal.Statement.{statement}
+use Rattle.stream.proofs.stop_refusal.Tie as tie
+
+returns : tie.Need-returns
+unfolding stopRefusal pick
+returns c = rw (eq-eqb (c .before .args .number) 14 (c .if1 .taken))
+
+returns-2 : tie.Need-returns-2
+unfolding stopRefusal pick
+returns-2 c = rw (ne-eqb (c .before .before .args .number) 14 (c .before .if1 .left), eq-eqb (c .before .before .args .number) 15 (c .if2 .taken))
+
+returns-3 : tie.Need-returns-3
+unfolding stopRefusal pick
+returns-3 c = rw (ne-eqb (c .before .before .before .args .number) 14 (c .before .before .if1 .left), ne-eqb (c .before .before .before .args .number) 15 (c .before .if2 .left), eq-eqb (c .before .before .before .args .number) 16 (c .if3 .taken))
+
+returns-4 : tie.Need-returns-4
+unfolding stopRefusal pick
+returns-4 c = rw (ne-eqb (c .before .before .before .before .args .number) 14 (c .before .before .before .if1 .left), ne-eqb (c .before .before .before .before .args .number) 15 (c .before .before .if2 .left), ne-eqb (c .before .before .before .before .args .number) 16 (c .before .if3 .left), eq-eqb (c .before .before .before .before .args .number) 17 (c .if4 .taken))
+
+returns-5 : tie.Need-returns-5
+unfolding stopRefusal pick
+returns-5 c = rw (ne-eqb (c .before .before .before .before .args .number) 14 (c .before .before .before .if1 .left), ne-eqb (c .before .before .before .before .args .number) 15 (c .before .before .if2 .left), ne-eqb (c .before .before .before .before .args .number) 16 (c .before .if3 .left), ne-eqb (c .before .before .before .before .args .number) 17 (c .if4 .left))
+
+pub stop-refusal-spec : {M : Type 1} → statement M
+stop-refusal-spec = tie.close (tie.spec returns returns-2 returns-3 returns-4 returns-5)
