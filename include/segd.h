@@ -25,9 +25,8 @@
  *     read (`out`: to write) and unchanged by others until the call returns;
  *   - `out` does not overlap `bytes`.
  *
- * The library keeps nothing between calls, takes no memory and needs nothing from outside but memset, which compilers ask of every C
- * environment, without a C library too: the state is all there is, and it is yours. A copy of it is a place to go back to. Calls may be
- * put from several threads at once. The stack of a call holds at most a few kilobytes.
+ * The library keeps nothing between calls, takes no memory and needs nothing from outside: the state is all there is, and it is yours. A
+ * copy of it is a place to go back to. Calls may be put from several threads at once. The stack of a call holds at most two kilobytes.
  *
  * COUNTING. Bytes of a block are numbered from 1, as in the SEG-D paper. Scan types, channel sets and channels count from 1; subscans
  * and samples of a scan (k) from 0; places in a body from 0, over all its blocks. Structs may have padding: compare fields, not memory.

@@ -15,7 +15,7 @@ use Rattle.basis.proofs.Tables.{every}
 use Rattle.codes.specs.declared.Row.{Row}
 use Rattle.codes.specs.declared.Found.{Found}
 use Rattle.codes.specs.declared.Found.the-variants.{At, Nothing}
-use Rattle.codes.specs.Codes.{findIn, table, rowOf, SoundRow, soundRow, groupIn, groupOf, perIn, perOf, leadIn, leadOf, wordBytesIn, wordBytesOf, bitsOf, ofRow}
+use Rattle.codes.specs.Codes.{findIn, table, rowOf, SoundRow, groupIn, groupOf, perIn, perOf, leadIn, leadOf, wordBytesIn, wordBytesOf, bitsOf, ofRow}
 
 -- what the groups of a code are: none, a word of one, two or four bytes, or ten bytes of four samples
 pub data Groups (group per lead word bits : ℕ) : Type 0 where
@@ -61,9 +61,13 @@ pub row-code : (code : ℕ) (r : Row) → rowOf code ≡ At r → r .code ≡ co
 unfolding rowOf
 row-code code r e = found-code table code r e
 
--- a row that passes the test fits, and each of the table does
-pub sound-fit : (r : Row) → soundRow r ≡ true → SoundRow r
-unfolding soundRow
+-- each row of the table keeps to SoundRow: a test, and what a row that passes it keeps to
+abbrev sound : Row → Bool
+sound r =
+    leb (r .apart) 4 && leb (r .fraction) 23 && leb (r .exponent) 7 && leb (1 + r .exponent + r .fraction) (r .width)
+    && leb (r .width) 32 && leb (r .apart) (r .exponent) && leb 4 (r .fraction) && leb (r .base) 4 && leb (r .bias) 64
+
+sound-fit : (r : Row) → sound r ≡ true → SoundRow r
 sound-fit r e =
     let a = and-true _ (leb (r .bias) 64) e in
     let b = and-true _ (leb (r .base) 4) (a .0) in
@@ -85,12 +89,9 @@ sound-fit r e =
       half = leb-true _ _ (a .1);
     }
 
-pub row-sound : (code : ℕ) (r : Row) → rowOf code ≡ At r → soundRow r ≡ true
-unfolding rowOf findIn table soundRow
-row-sound code r e = is-true (soundRow r) (holds soundRow table code r tt e)
-
 pub fit : (code : ℕ) (r : Row) → rowOf code ≡ At r → SoundRow r
-fit code r e = sound-fit r (row-sound code r e)
+unfolding rowOf table
+fit code r e = sound-fit r (is-true (sound r) (holds sound table code r tt e))
 
 -- a row's groups, as one test
 abbrev five : ℕ → ℕ → ℕ → ℕ → ℕ → Row → Bool

@@ -1,7 +1,7 @@
 -- "The twelve format codes stand in one table": its rows, the row of a code, and how many bytes its samples take on tape.
 -- Assumes nothing.
 use Prim.Native.Nat.{ℕ, _+_, _-_, _/_, _≤_}
-use mathlib.Core.Bool.{Bool, _&&_}
+use mathlib.Core.Bool.{Bool}
 use mathlib.Core.List.{List, [], _∷_}
 use lib.Dec.{eqb, leb}
 use Rattle.basis.specs.Choice.{pick}
@@ -11,10 +11,10 @@ use Rattle.codes.specs.declared.Row.{Row}
 use Rattle.codes.specs.declared.Found.{Found}
 use Rattle.codes.specs.declared.Found.the-variants.{At, Nothing}
 
--- the columns: code, bits on tape, those of an exponent apart, fraction bits, base as a power of two, exponent bits, bias, kind
+-- the columns: code, bits on tape, those of an exponent apart, fraction bits, log2 of the base, exponent bits, bias, kind
 abbrev pub row : ℕ → ℕ → ℕ → ℕ → ℕ → ℕ → ℕ → Kind → Row
-row code width apart n base e bias kind =
-    record { code = code; width = width; apart = apart; fraction = n; base = base; exponent = e; bias = bias; kind = kind }
+row code width apart n base b bias kind =
+    record { code = code; width = width; apart = apart; fraction = n; base = base; exponent = b; bias = bias; kind = kind }
 
 -- "0015, 0022, 0024, 0042, 0044, 0048 and the same with a leading 8"; the paper gives 8015 one fraction bit more, its last
 unfoldable pub table : List Row
@@ -58,12 +58,6 @@ pub record SoundRow (r : Row) : Type 0 where
   pub hex : r .base ≤ 4
   pub half : r .bias ≤ 64
 
--- the same, as a test
-unfoldable pub soundRow : Row → Bool
-soundRow r =
-    leb (r .apart) 4 && leb (r .fraction) 23 && leb (r .exponent) 7 && leb (1 + r .exponent + r .fraction) (r .width)
-    && leb (r .width) 32 && leb (r .apart) (r .exponent) && leb 4 (r .fraction) && leb (r .base) 4 && leb (r .bias) 64
-
 -- bytes of a group of samples on tape: one word; or, where exponents stand apart, "four c of 4 bits, then four" words: four samples
 unfoldable pub groupIn : Row → ℕ
 groupIn r = pick (eqb (r .apart) 0) (r .width / 8) (r .width / 2)
@@ -85,16 +79,19 @@ abbrev pub ofRow : (Row → ℕ) → Found → ℕ
 ofRow f Nothing = 0
 ofRow f (At r) = f r
 
--- these of a code
+-- the bytes of a group, of a code
 unfoldable pub groupOf : ℕ → ℕ
 groupOf code = ofRow groupIn (rowOf code)
 
+-- the samples of a group, of a code
 unfoldable pub perOf : ℕ → ℕ
 perOf code = ofRow perIn (rowOf code)
 
+-- the bytes of exponents at a group's front, of a code
 unfoldable pub leadOf : ℕ → ℕ
 leadOf code = ofRow leadIn (rowOf code)
 
+-- the bytes of a word in a group, of a code
 unfoldable pub wordBytesOf : ℕ → ℕ
 wordBytesOf code = ofRow wordBytesIn (rowOf code)
 

@@ -1,7 +1,7 @@
 // The twelve format codes, one row each, and what a row says of the bytes on tape.
 ghost use mathlib.Core.Path.{_≡_};
 ghost use Prim.Native.Nat.{_≤_};
-ghost use Rattle.codes.specs.Codes.{rowOf, soundRow, groupIn, groupOf, bitsOf};
+ghost use Rattle.codes.specs.Codes.{rowOf, groupIn, groupOf, bitsOf};
 
 // How a fraction is kept: its negatives complemented; with a sign beside it; or with a sign, and left justified in hexadecimal digits.
 pub enum Kind {
@@ -10,6 +10,7 @@ pub enum Kind {
     Justified,
 }
 
+// One row of the table.
 pub struct Row {
     // the sixteen bits on the tape
     pub code: u16,
@@ -19,7 +20,7 @@ pub struct Row {
     pub apart: u32,
     // fraction bits
     pub fraction: u32,
-    // the exponent's base, as a power of two: 1 binary, 2 quaternary, 4 hexadecimal
+    // log2 of the exponent's base: 1 binary, 2 quaternary, 4 hexadecimal
     pub base: u32,
     // exponent bits
     pub exponent: u32,
@@ -28,6 +29,7 @@ pub struct Row {
     pub kind: Kind,
 }
 
+// The row of a code; nothing where it is not among the twelve.
 pub enum Found {
     At(Row),
     Nothing,
@@ -185,29 +187,8 @@ pub fn find(code: u16) -> Found
     Found::Nothing
 }
 
-// Whether words can be read by a row's numbers.
-pub fn sound(r: Row) -> bool
-    ensures { λ t. ⌜ t ≡ soundRow r ⌝ }
-{
-    if 4 < r.apart {
-        return false;
-    }
-    if 23 < r.fraction {
-        return false;
-    }
-    if 7 < r.exponent {
-        return false;
-    }
-    (1 + r.exponent + r.fraction <= r.width)
-        & (r.width <= 32)
-        & (r.apart <= r.exponent)
-        & (4 <= r.fraction)
-        & (r.base <= 4)
-        & (r.bias <= 64)
-}
-
 // The bytes of a row's group of samples on tape.
-pub fn group_in(r: Row) -> u32
+fn group_in(r: Row) -> u32
     ensures { λ t. ⌜ t ≡ groupIn r ⌝ }
 {
     if r.apart == 0 {

@@ -49,7 +49,7 @@ use Rattle.rules.specs.Outcome.{doneOf}
 use Rattle.rules.proofs.Laws.{stop-first}
 use Rattle.scan.specs.declared.State.{State}
 use Rattle.scan.specs.Fit.{fitb}
-use Rattle.stream.specs.Calls.{portion, taken as takenPortion, written, kept}
+use Rattle.stream.specs.Calls.{portion, taken as takenPortion, written, kept, lacksRoom}
 use Rattle.body.specs.Ends.{blockEnd, close}
 use Rattle.agree.proofs.Agreement.{agreement, turned-away}
 use Rattle.framing.proofs.Framed.{framed}
@@ -74,11 +74,11 @@ unmoved : (s : State) → fitb s ≡ false → Unmoved s
 unfolding portion written blockEnd close pick
 unmoved s f = record { portions = λ bs room. rw f; written = λ bs room. rw f; blockEnds = rw f; closes = rw f }
 
-no-room : (s : State) (bs : List ℕ) (room : ℕ) → fitb s ≡ true → s .stop ≡ 0 → room < 2 * length bs → NoTrace s bs room
+no-room : (s : State) (bs : List ℕ) (room : ℕ) → fitb s ≡ true → s .stop ≡ 0 → lacksRoom room (length bs) ≡ true → NoTrace s bs room
 unfolding portion takenPortion written kept pick
 no-room s bs room f z l = record {
-  answer = rw (f, eq-eqb (s .stop) 0 z, lt-ltb room (2 * length bs) l);
-  written = rw (f, eq-eqb (s .stop) 0 z, lt-ltb room (2 * length bs) l);
+  answer = rw (f, eq-eqb (s .stop) 0 z, l);
+  written = rw (f, eq-eqb (s .stop) 0 z, l);
 }
 
 pub demand1 : Demand1

@@ -6,6 +6,7 @@ use mathlib.Core.Bool.{Bool, true, false}
 use mathlib.Core.List.{List, [], _∷_, _++_}
 use native.Mathlib.Omega.{arith}
 use lib.Dec.{eqb, ltb}
+use borrow.Author.Tests.{ltb-false}
 use lib.IntN.{ℤ}
 use lib.ListN.{length, take, drop}
 use lib.Seq.{take-all, take-append-le, drop-at}
@@ -17,7 +18,7 @@ use Rattle.scan.specs.declared.Stepped.{Stepped}
 use Rattle.scan.specs.Fit.{fitb}
 use Rattle.scan.specs.Step.{after, wrote, step, pair}
 use Rattle.stream.specs.declared.Answer.{Answer}
-use Rattle.stream.specs.Calls.{portion, taken, fed, unchanged, written, kept, answered}
+use Rattle.stream.specs.Calls.{portion, taken, fed, unchanged, written, kept, answered, lacksRoom}
 use Rattle.stream.proofs.Cuts.{cut-state, cut-wrote}
 use Rattle.demands.specs.Demand3.{TwoAreOne, samplesIn, Output}
 
@@ -30,11 +31,18 @@ nothing : (s : State) (bs : List ℕ) (room : ℕ) → fitb s ≡ false → writ
 unfolding written pick
 nothing s bs room f = rw f
 
-pub two-are-one : (s : State) (a b : List ℕ) (m n k : ℕ) → 2 * length a ≤ m → 2 * length b ≤ n → 2 * length (a ++ b) ≤ k → TwoAreOne s a b m n k
+pub two-are-one : (s : State) (a b : List ℕ) (m n k : ℕ) → lacksRoom m (length a) ≡ false → lacksRoom n (length b) ≡ false → lacksRoom k (length (a ++ b)) ≡ false → TwoAreOne s a b m n k
 two-are-one s a b m n k ha hb h = go (fitb s) refl
   where
+    enough : (bs : List ℕ) (room : ℕ) → lacksRoom room (length bs) ≡ false → 2 * length bs ≤ room
+    enough bs room e = ltb-false room (2 * length bs) e
+
     go : (t : Bool) → fitb s ≡ t → TwoAreOne s a b m n k
-    go true f = record { state = cut-state s a b f m n k ha hb h; samples = cut-wrote s a b f m n k ha hb h }
+    go true f =
+        let ra = enough a m ha in
+        let rb = enough b n hb in
+        let r = enough (a ++ b) k h in
+        record { state = cut-state s a b f m n k ra rb r; samples = cut-wrote s a b f m n k ra rb r }
     go false f = record {
       state = rw (still s a m f, still s b n f, still s (a ++ b) k f);
       samples = rw (still s a m f, nothing s a m f, nothing s b n f, nothing s (a ++ b) k f);

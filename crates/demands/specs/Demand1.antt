@@ -1,7 +1,7 @@
 -- The first demand: whatever is handed in, every call ends with its answer or with the refusal that the description names. That a
 -- function meets its contract is proved where the function stands; here stand which answer that is, and what follows for all of them.
 -- Assumes nothing.
-use Prim.Native.Nat.{ℕ, _*_, _<_}
+use Prim.Native.Nat.{ℕ}
 use mathlib.Core.Path.{_≡_}
 use mathlib.Core.Bool.{true, false}
 use mathlib.Core.List.{List, [], _∷_}
@@ -71,4 +71,4 @@ pub record Demand1 : Type 2 where
   -- a stop that a fit state keeps is told by its row's number, with its place
   pub told : (n place : ℕ) → stopb n ≡ true → (n ≡ 0 → ⊥) → said (calls.stopRefusal n place) ≡ record { number = n; values = place ∷ [] }
   -- "A portion needs twice its length in output numbers"
-  pub room : (s : State) (bs : List ℕ) (room : ℕ) → fitb s ≡ true → s .stop ≡ 0 → room < 2 * length bs → NoTrace s bs room
+  pub room : (s : State) (bs : List ℕ) (room : ℕ) → fitb s ≡ true → s .stop ≡ 0 → calls.lacksRoom room (length bs) ≡ true → NoTrace s bs room

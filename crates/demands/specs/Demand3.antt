@@ -1,7 +1,8 @@
 -- The third demand: however a body is cut, what is read is what the rules say of the uncut body.
 -- Assumes nothing.
-use Prim.Native.Nat.{ℕ, _+_, _*_, _≤_, _<_}
+use Prim.Native.Nat.{ℕ, _+_, _*_, _<_}
 use mathlib.Core.Path.{_≡_}
+use mathlib.Core.Bool.{false}
 use mathlib.Core.List.{List, _++_}
 use lib.IntN.{ℤ}
 use lib.ListN.{length, take, drop}
@@ -22,7 +23,7 @@ use Rattle.agree.specs.Agreement.{Agreement}
 
 -- "A portion needs twice its length in output numbers"
 abbrev Enough : List ℕ → ℕ → Type 0
-Enough bs room = 2 * length bs ≤ room
+Enough bs room = calls.lacksRoom room (length bs) ≡ false
 
 -- "Cut the bytes into portions anywhere, each lent enough output": two portions, lent m numbers and n, come to the state and write the
 -- samples of the one portion that they make, lent k

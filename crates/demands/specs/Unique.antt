@@ -5,18 +5,16 @@ use Rattle.basis.proofs.difference.Reads as basis-difference
 use Rattle.basis.proofs.magnitude.Reads as basis-magnitude
 use Rattle.refusals.proofs.tell.Reads as refusals-tell
 use Rattle.codes.proofs.find.Reads as codes-find
-use Rattle.codes.proofs.sound.Reads as codes-sound
-use Rattle.codes.proofs.group_in.Reads as codes-group-in
 use Rattle.codes.proofs.group.Reads as codes-group
 use Rattle.codes.proofs.bits.Reads as codes-bits
 use Rattle.words.proofs.read_word.Reads as words-read-word
 use Rattle.words.proofs.read.Reads as words-read
-use Rattle.words.proofs.off_byte.Reads as words-off-byte
-use Rattle.words.proofs.by_entry.Reads as words-by-entry
 use Rattle.words.proofs.value15.Reads as words-value15
 use Rattle.words.proofs.value24.Reads as words-value24
 use Rattle.words.proofs.value44.Reads as words-value44
 use Rattle.words.proofs.value48.Reads as words-value48
+use Rattle.entries.proofs.off.Reads as entries-off
+use Rattle.entries.proofs.value.Reads as entries-value
 use Rattle.block.proofs.packed.Reads as block-packed
 use Rattle.block.proofs.byte_at.Reads as block-byte-at
 use Rattle.block.proofs.upper_at.Reads as block-upper-at
@@ -58,6 +56,7 @@ use Rattle.runs.proofs.words24.Reads as runs-words24
 use Rattle.runs.proofs.words44.Reads as runs-words44
 use Rattle.runs.proofs.words48.Reads as runs-words48
 use Rattle.runs.proofs.groups15.Reads as runs-groups15
+use Rattle.runs.proofs.rest15.Reads as runs-rest15
 use Rattle.body.proofs.open.Reads as body-open
 use Rattle.stream.proofs.stop_refusal.Reads as stream-stop-refusal
 use Rattle.stream.proofs.portion.Reads as stream-portion
@@ -94,18 +93,16 @@ pub record Unique : Type 0 where
   pub magnitude : OneAnswer basis-magnitude.Post
   pub tell : OneAnswer refusals-tell.Post
   pub find : OneAnswer codes-find.Post
-  pub sound : OneAnswer codes-sound.Post
-  pub group-in : OneAnswer codes-group-in.Post
   pub group : OneAnswer codes-group.Post
   pub bits : OneAnswer codes-bits.Post
   pub read-word : OneAnswer words-read-word.Post
   pub read : OneAnswer words-read.Post
-  pub off-byte : OneAnswer words-off-byte.Post
-  pub by-entry : OneAnswer words-by-entry.Post
   pub value15 : OneAnswer words-value15.Post
   pub value24 : OneAnswer words-value24.Post
   pub value44 : OneAnswer words-value44.Post
   pub value48 : OneAnswer words-value48.Post
+  pub off : OneAnswer entries-off.Post
+  pub value : OneAnswer entries-value.Post
   pub packed : OneAnswer block-packed.Post
   pub byte-at : OneAnswer block-byte-at.Post
   pub upper-at : OneAnswer block-upper-at.Post
@@ -143,7 +140,7 @@ pub record Unique : Type 0 where
   pub sample-time : OneAnswer parts-sample-time.Post
   pub fit : OneAnswer scan-fit.Post
   pub bytes-by : OneAnswer runs-bytes-by.Post
-  pub bytes-by-content : OneContent runs-bytes-by.Post (λ κ e. e .1 .1 .1 .0 .now)
+  pub bytes-by-content : OneContent runs-bytes-by.Post (λ κ e. e .1 .1 .0 .now)
   pub words24 : OneAnswer runs-words24.Post
   pub words24-content : OneContent runs-words24.Post (λ κ e. e .1 .0 .now)
   pub words44 : OneAnswer runs-words44.Post
@@ -152,6 +149,8 @@ pub record Unique : Type 0 where
   pub words48-content : OneContent runs-words48.Post (λ κ e. e .1 .0 .now)
   pub groups15 : OneAnswer runs-groups15.Post
   pub groups15-content : OneContent runs-groups15.Post (λ κ e. e .1 .0 .now)
+  pub rest15 : OneAnswer runs-rest15.Post
+  pub rest15-content : OneContent runs-rest15.Post (λ κ e. e .1 .1 .1 .0 .now)
   pub body-open : OneAnswer body-open.Post
   pub stop-refusal : OneAnswer stream-stop-refusal.Post
   pub portion : OneAnswer stream-portion.Post

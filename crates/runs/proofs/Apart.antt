@@ -5,65 +5,47 @@ use mathlib.Core.Path.{_≡_, sym, _∙_}
 use mathlib.Core.List.{List}
 use native.Mathlib.Nat.{add-zero, zero-add, add-assoc}
 use native.Mathlib.Omega.{arith}
-use borrow.Author.Tests.{lt-ltb}
-use Rattle.basis.specs.Choice.{pick}
-use Rattle.basis.specs.Upto.{upto}
-use Rattle.basis.proofs.Choices.{pick-both}
-use Rattle.words.specs.Entries.{entryOf, tabled}
-use Rattle.runs.specs.Words.{byteOne, tableValue}
 use Rattle.basis.specs.Digits.{byteIn}
-use Rattle.runs.specs.Runs.{offOne, offs, Between}
-use Rattle.runs.proofs.Done.{offs-more, offs-low}
-
--- the mark of a byte's word is the byte's, by any table
-byte-mark : (code : ℕ) (xs bs : List ℕ) (i : ℕ) → byteIn bs i < 256 → offOne (tableValue code xs bs i) ≡ byteOne code (byteIn bs i)
-unfolding offOne tableValue tabled entryOf byteOne pick
-byte-mark code xs bs i h = rw (lt-ltb (byteIn bs i) 256 h)
-
-byte-low : (code b : ℕ) → byteOne code b ≤ 1
-unfolding byteOne
-byte-low code b = pick-both (λ (n : ℕ). n ≤ 1) _ (omega arith) (omega arith)
-
-between-none : (code : ℕ) (bs : List ℕ) (k : ℕ) → Between code bs k k 0
-between-none code bs k = record { counts = λ xs. sym (add-zero _) }
-
-between-more : {code : ℕ} {bs : List ℕ} {k i off : ℕ} → Between code bs k i off → byteIn bs i < 256 → Between code bs k (i + 1) (off + byteOne code (byteIn bs i))
-between-more {code} {bs} {k} {i} {off} b h =
-    record { counts = λ xs. offs-more (tableValue code xs bs) i ∙ rw (byte-mark code xs bs i h, b .counts xs, add-assoc) }
-
-pub between-on : {code : ℕ} {bs : List ℕ} {i k e s t : ℕ} → Between code bs i k s → Between code bs k e t → Between code bs i e (s + t)
-between-on b c = record { counts = λ xs. c .counts xs ∙ rw (b .counts xs, add-assoc) }
-
--- from the first on
-pub between-all : {code : ℕ} {bs : List ℕ} {n t : ℕ} → Between code bs 0 n t → (xs : List ℕ) → t ≡ offs (tableValue code xs bs) n
-unfolding offs upto
-between-all {t = t} b xs = sym (b .counts xs ∙ zero-add t)
-
-pub between-low : {code : ℕ} {bs : List ℕ} {n t : ℕ} → Between code bs 0 n t → t ≤ n
-between-low {code} {bs} {n} b = rw (between-all b bs) (offs-low (tableValue code bs bs) n)
+use Rattle.basis.specs.Upto.{upto}
+use Rattle.words.specs.Words.{valueOf}
+use Rattle.entries.specs.Entries.{byteCode}
+use Rattle.runs.specs.Words.{byteValue}
+use Rattle.runs.specs.Runs.{offOne, offs}
+use Rattle.runs.proofs.Done.{one-low, offs-more, offs-low}
 
 -- at the head of a loop over the bytes from k to e: those before i are counted
 pub record Counted (code : ℕ) (bs : List ℕ) (k e off i : ℕ) : Type 0 where
   pub within : i ≤ e
   pub few : k + off ≤ i
-  pub sum : Between code bs k i off
+  pub sum : offs (byteValue code bs) i ≡ offs (byteValue code bs) k + off
 
 pub counted-none : (code : ℕ) (bs : List ℕ) (k e : ℕ) → k ≤ e → Counted code bs k e 0 k
-counted-none code bs k e h = record { within = h; few = omega arith; sum = between-none code bs k }
+counted-none code bs k e h = record { within = h; few = omega arith; sum = sym (add-zero _) }
 
-pub counted-more : {code : ℕ} {bs : List ℕ} {k e off i off′ : ℕ} → Counted code bs k e off i → i < e → byteIn bs i < 256 → off′ ≡ off + byteOne code (byteIn bs i) → Counted code bs k e off′ (i + 1)
-counted-more {code} {bs} {i = i} d h l q =
+pub counted-more : {code : ℕ} {bs : List ℕ} {k e off i off′ : ℕ} → Counted code bs k e off i → i < e → off′ ≡ off + offOne (valueOf (byteCode code) 0 (byteIn bs i)) → Counted code bs k e off′ (i + 1)
+unfolding byteValue
+counted-more {code} {bs} {i = i} d h q =
     record {
       within = omega arith;
-      few = omega (arith, d .few, q, byte-low code (byteIn bs i));
-      sum = rw q (between-more (d .sum) l);
+      few = omega (arith, d .few, q, one-low (valueOf (byteCode code) 0 (byteIn bs i)));
+      sum = rw q (offs-more (byteValue code bs) i ∙ rw (d .sum, add-assoc));
     }
 
--- more of them at a time, from the first on
-pub counted-on : {code : ℕ} {bs : List ℕ} {n off k e t : ℕ} → Counted code bs 0 n off k → e ≤ n → Between code bs k e t → Counted code bs 0 n (off + t) e
-counted-on d h b = let c = between-on (d .sum) b in record { within = h; few = omega (arith, between-low c); sum = c }
+-- from the first on
+all : (code : ℕ) (bs : List ℕ) (n t : ℕ) → offs (byteValue code bs) n ≡ offs (byteValue code bs) 0 + t → t ≡ offs (byteValue code bs) n
+unfolding offs upto
+all code bs n t e = sym (e ∙ zero-add t)
 
-pub counted-end : {code : ℕ} {bs : List ℕ} {k e off i : ℕ} → Counted code bs k e off i → e ≤ i → Between code bs k e off
+-- more of them at a time
+pub counted-on : {code : ℕ} {bs : List ℕ} {n off k e : ℕ} (t : ℕ) → Counted code bs 0 n off k → e ≤ n → offs (byteValue code bs) e ≡ offs (byteValue code bs) k + t → Counted code bs 0 n (off + t) e
+counted-on {code} {bs} {off = off} {e = e} t d h q =
+    let s : offs (byteValue code bs) e ≡ offs (byteValue code bs) 0 + (off + t) = q ∙ rw (d .sum, add-assoc) in
+    record { within = h; few = omega (arith, all code bs e (off + t) s, offs-low (byteValue code bs) e); sum = s }
+
+pub counted-end : {code : ℕ} {bs : List ℕ} {k e off i : ℕ} → Counted code bs k e off i → e ≤ i → offs (byteValue code bs) e ≡ offs (byteValue code bs) k + off
 counted-end {e = e} {i = i} d h =
     let q : e ≡ i = omega (arith, d .within) in
     rw q (d .sum)
+
+pub counted-all : {code : ℕ} {bs : List ℕ} {n off k : ℕ} → Counted code bs 0 n off k → n ≤ k → off ≡ offs (byteValue code bs) n
+counted-all {code} {bs} {n} {off} d h = all code bs n off (counted-end d h)

@@ -36,10 +36,10 @@ unfolding numbers upto
 numbers-length f zero = refl
 numbers-length f (suc n) = rw (length-append, numbers-length f n) (omega arith)
 
--- no more samples than the whole groups have
-pub samples-whole : (group per bytes room : ℕ) → samplesIn group per bytes room ≤ bytes / group * per
+-- no more samples than words
+pub samples-low : (words room : ℕ) → samplesIn words room ≤ words
 unfolding samplesIn
-samples-whole group per bytes room = min-le-left (bytes / group * per) (room / 2)
+samples-low words room = min-le-left words (room / 2)
 
 -- at the head of a loop: of `a` words that are there, of which the room takes n, the first k are written
 pub record Done (f : ℕ → Value) (a n : ℕ) (out₀ out : List ℤ) (off k : ℕ) : Type 0 where
@@ -180,10 +180,10 @@ done-four {g = g} d h w1 w2 w3 w4 =
     let d3 = done-put d2 {i = 4 * g + 3} w3 (omega arith) (omega arith) (omega arith) in
     done-put d3 w4 (omega arith) (omega arith) (omega arith)
 
--- the contract of a loop, from its end: the words that are there are those of the whole groups
-pub loop-ends : (group per : ℕ) (word : List ℕ → ℕ → Value) (bs : List ℕ) {a n : ℕ} {out₀ out : List ℤ} {off k : ℕ} → a ≡ length bs / group * per → Done (word bs) a n out₀ out off k → n ≤ k
-    → (_≡_ {A = Ran} (record { samples = n; off = off }) (ran group per word bs out₀)) × (out ≡ filled group per word bs out₀)
+-- the contract of a loop, from its end: the words that are there are those that the bytes hold
+pub loop-ends : (words : ℕ → ℕ) (word : List ℕ → ℕ → Value) (bs : List ℕ) {n : ℕ} {out₀ out : List ℤ} {off k : ℕ} → Done (word bs) (words (length bs)) n out₀ out off k → n ≤ k
+    → (_≡_ {A = Ran} (record { samples = n; off = off }) (ran words word bs out₀)) × (out ≡ filled words word bs out₀)
 unfolding ran filled samplesIn
-loop-ends group per word bs e d h =
+loop-ends words word bs d h =
     let a = done-all d h in
-    (rw (← e, ← d .least, a .0), rw (← e, ← d .least) (a .1))
+    (rw (← d .least, a .0), rw (← d .least) (a .1))

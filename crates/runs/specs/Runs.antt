@@ -1,14 +1,12 @@
 -- What a run over whole words comes to, whatever their code.
 -- Assumes nothing.
-use Prim.Native.Nat.{ℕ, min, _+_, _*_, _/_}
-use mathlib.Core.Path.{_≡_}
+use Prim.Native.Nat.{ℕ, min, _/_}
 use mathlib.Core.List.{List, [], _∷_, _++_}
 use lib.IntN.{ℤ}
 use lib.ListN.{length, drop}
 use Rattle.basis.specs.Choice.{pick}
 use Rattle.basis.specs.Upto.{sumUpto, listUpto}
 use Rattle.words.specs.declared.Value.{Value}
-use Rattle.runs.specs.Words.{tableValue}
 use Rattle.runs.specs.declared.Ran.{Ran}
 
 -- 1 for an off-rule word
@@ -23,10 +21,6 @@ offAt f k = offOne (f k)
 unfoldable pub offs : (ℕ → Value) → ℕ → ℕ
 offs f n = sumUpto (offAt f) n
 
--- t of the words of one byte from k to e are off rule, whatever the table that gives M and X
-pub record Between (code : ℕ) (bs : List ℕ) (k e t : ℕ) : Type 0 where
-  pub counts : (xs : List ℕ) → offs (tableValue code xs bs) e ≡ offs (tableValue code xs bs) k + t
-
 -- M and X of word k
 abbrev both : (ℕ → Value) → ℕ → List ℤ
 both f k = f k .m ∷ f k .x ∷ []
@@ -39,15 +33,15 @@ numbers f n = listUpto (both f) n
 unfoldable pub over : List ℤ → List ℤ → List ℤ
 over w out = w ++ drop (length w) out
 
--- the samples, `per` to a group, of the whole groups that the bytes hold, as far as the room takes two numbers for each
-unfoldable pub samplesIn : ℕ → ℕ → ℕ → ℕ → ℕ
-samplesIn group per bytes room = min (bytes / group * per) (room / 2)
+-- the samples of so many words, as far as the room takes two numbers for each
+unfoldable pub samplesIn : ℕ → ℕ → ℕ
+samplesIn words room = min words (room / 2)
 
--- of some bytes and an output, with `word bs k` the value of word k: the answer
-unfoldable pub ran : ℕ → ℕ → (List ℕ → ℕ → Value) → List ℕ → List ℤ → Ran
-ran group per word bs out =
-    record { samples = samplesIn group per (length bs) (length out); off = offs (word bs) (samplesIn group per (length bs) (length out)) }
+-- of some bytes and an output, with `words` the number of words that so many bytes hold and `word bs k` the value of word k: the answer
+unfoldable pub ran : (ℕ → ℕ) → (List ℕ → ℕ → Value) → List ℕ → List ℤ → Ran
+ran words word bs out =
+    record { samples = samplesIn (words (length bs)) (length out); off = offs (word bs) (samplesIn (words (length bs)) (length out)) }
 
 -- and the output, with the numbers over its front
-unfoldable pub filled : ℕ → ℕ → (List ℕ → ℕ → Value) → List ℕ → List ℤ → List ℤ
-filled group per word bs out = over (numbers (word bs) (samplesIn group per (length bs) (length out))) out
+unfoldable pub filled : (ℕ → ℕ) → (List ℕ → ℕ → Value) → List ℕ → List ℤ → List ℤ
+filled words word bs out = over (numbers (word bs) (samplesIn (words (length bs)) (length out))) out

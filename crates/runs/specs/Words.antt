@@ -1,29 +1,32 @@
--- Word k, from 0, of whole words or groups that stand one after another in some bytes.
+-- Word k, from 0, of whole words or groups that stand one after another in some bytes, and how many there are.
 -- Assumes nothing.
 use Prim.Native.Nat.{ℕ, _+_, _-_, _*_, _/_, _%_}
 use mathlib.Core.List.{List}
-use Rattle.basis.specs.Choice.{pick}
 use Rattle.basis.specs.Digits.{written, byteIn}
 use Rattle.basis.specs.Fields.{field}
 use Rattle.words.specs.declared.Value.{Value}
-use Rattle.words.specs.Words.{valued, valueOf}
-use Rattle.words.specs.Entries.{offByte, tabled}
+use Rattle.words.specs.Words.{valueOf}
+use Rattle.entries.specs.Entries.{byteCode}
+
+-- the words of w bytes that so many bytes hold
+unfoldable pub wordsIn : ℕ → ℕ → ℕ
+wordsIn w bytes = bytes / w
 
 -- a word of w bytes, of a code whose words stand alone
 unfoldable pub plainValue : ℕ → ℕ → List ℕ → ℕ → Value
 plainValue code w bs k = valueOf code 0 (written 256 (byteIn bs) (w * k) w)
 
--- a word of one byte, of a code, by a table
-unfoldable pub tableValue : ℕ → List ℕ → List ℕ → ℕ → Value
-tableValue code xs bs k = valued (tabled code xs 0 (byteIn bs k))
+-- a word of one byte, of 0022 or else of 0042
+unfoldable pub byteValue : ℕ → List ℕ → ℕ → Value
+byteValue code bs k = valueOf (byteCode code) 0 (byteIn bs k)
 
--- 1 for a word of one byte that is off rule
-unfoldable pub byteOne : ℕ → ℕ → ℕ
-byteOne code b = pick (offByte code b) 1 0
+-- groups of 0015, of ten bytes: "four c of 4 bits, then four of S Q14 0"; of a group's exponents e the one that word k takes
+unfoldable pub turnOf : ℕ → ℕ → ℕ
+turnOf e k = field e (12 - 4 * (k % 4)) 4
 
--- groups of 0015, of ten bytes: "four c of 4 bits, then four of S Q14 0"; the exponent of word k
+-- the exponent of word k of groups
 unfoldable pub groupExponent : List ℕ → ℕ → ℕ
-groupExponent bs k = field (written 256 (byteIn bs) (10 * (k / 4)) 2) (12 - 4 * (k % 4)) 4
+groupExponent bs k = turnOf (written 256 (byteIn bs) (10 * (k / 4)) 2) k
 
 -- its sixteen bits
 unfoldable pub groupWord : List ℕ → ℕ → ℕ
@@ -32,3 +35,11 @@ groupWord bs k = written 256 (byteIn bs) (10 * (k / 4) + 2 + 2 * (k % 4)) 2
 -- its value
 unfoldable pub groupedValue : ℕ → List ℕ → ℕ → Value
 groupedValue code bs k = valueOf code (groupExponent bs k) (groupWord bs k)
+
+-- the words that so many bytes of groups hold: four of each, and of the last group those that are there
+unfoldable pub groupedIn : ℕ → ℕ
+groupedIn bytes = bytes / 10 * 4 + (bytes % 10 - 2) / 2
+
+-- word k of what is left of a group from its word j on, by the group's exponents e
+unfoldable pub restValue : ℕ → ℕ → ℕ → List ℕ → ℕ → Value
+restValue code e j bs k = valueOf code (turnOf e (j + k)) (written 256 (byteIn bs) (2 * k) 2)

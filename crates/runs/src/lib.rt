@@ -1,10 +1,12 @@
-// Whole sample words, read one after another: a loop for each code, whose decoder is made of constants.
+// Whole sample words, read one after another. 0024, 0044, 0048 and 0015 have loops of their own, whose decoders are made of constants; 0022 and 0042 share one, by their tables.
 ghost use mathlib.Core.Path.{_≡_};
 ghost use Prim.Native.Nat.{min, _+_, _*_, _/_, _%_, _≤_, _<_};
 ghost use lib.ListN.{length, set};
 ghost use Rattle.basis.specs.Digits.{written, byteIn};
-ghost use Rattle.runs.specs.Words.{byteOne, groupExponent, groupWord, tableValue, plainValue, groupedValue};
-ghost use Rattle.runs.specs.Runs.{offOne, offs, Between, numbers, over, ran, filled};
+ghost use Rattle.words.specs.Words.{valueOf};
+ghost use Rattle.entries.specs.Entries.{byteCode};
+ghost use Rattle.runs.specs.Words.{wordsIn, groupedIn, groupExponent, groupWord, byteValue, plainValue, groupedValue, restValue};
+ghost use Rattle.runs.specs.Runs.{offOne, offs, numbers, over, ran, filled};
 use words::Value;
 
 // What a run came to: the samples that it wrote, and how many of their words are off rule.
@@ -38,7 +40,7 @@ fn put(out: &mut [i32], k: usize, w: Value)
     out[2 * k + 1] = x;
 }
 
-// The two bytes from i on, the least first: words are loaded whole, and turned round in functions of their own.
+// The two bytes from i on, the least first. To load a word and to turn it round are two functions: in one expression LLVM loads its bytes one by one.
 fn little2(bytes: &[u8], i: usize) -> u16
     requires { ⌜ i + 1 < length (now bytes) ⌝ }
     ensures { λ r. ⌜ r % 256 ≡ byteIn (now (bytes .entry)) i ⌝ }
@@ -91,6 +93,130 @@ fn big4(bytes: &[u8], i: usize) -> u32
     swapped4(little4(bytes, i))
 }
 
+// Off-rule words of one byte, with one word more.
+fn count_byte(off: u8, code: u16, b: u8) -> u8
+    requires { ⌜ off < 255 ⌝ }
+    ensures { λ r. ⌜ r ≡ off + offOne (valueOf (byteCode code) 0 b) ⌝ }
+{
+    if entries::off(code, b) { off + 1 } else { off }
+}
+
+// The off-rule words among bytes k to e. Their count is a byte, as they are: so many of them are looked at in one instruction.
+fn off_few(code: u16, bytes: &[u8], k: usize, e: usize) -> u8
+    requires { ⌜ (k ≤ e) × (e ≤ k + 255) × (e ≤ length (now bytes)) ⌝ }
+    ensures { λ r. ⌜ offs (byteValue code (now (bytes .entry))) e ≡ offs (byteValue code (now (bytes .entry))) k + r ⌝ }
+{
+    let mut off: u8 = 0;
+    let mut i = k;
+    while i < e {
+        off = count_byte(off, code, bytes[i]);
+        i += 1;
+    }
+    off
+}
+
+// The end of the next bytes to count: of 224, which the compiled loop takes 32 at a turn, or of those that are left.
+fn next_few(k: usize, n: usize) -> usize
+    requires { ⌜ k < n ⌝ }
+    ensures { λ r. ⌜ (k < r) × (r ≤ n) × (r ≤ k + 255) ⌝ }
+{
+    if n - k <= 224 { n } else { k + 224 }
+}
+
+// The off-rule words among the first n bytes.
+fn off_bytes(code: u16, bytes: &[u8], n: usize) -> usize
+    requires { ⌜ n ≤ length (now bytes) ⌝ }
+    ensures { λ r. ⌜ r ≡ offs (byteValue code (now (bytes .entry))) n ⌝ }
+{
+    let mut off: usize = 0;
+    let mut k: usize = 0;
+    while k < n {
+        let e = next_few(k, n);
+        off += off_few(code, bytes, k, e) as usize;
+        k = e;
+    }
+    off
+}
+
+// Words of one byte, of 0022 or else of 0042. Off-rule words are counted apart, since that takes less than to count each with its sample.
+pub fn bytes_by(code: u16, bytes: &[u8], out: &mut [i32]) -> Ran
+    ensures { λ r. ⌜ r ≡ ran (wordsIn 1) (byteValue code) (now (bytes .entry)) (now (out .entry)) ⌝ }
+    ensures { λ r. ⌜ now (out .exit) ≡ filled (wordsIn 1) (byteValue code) (now (bytes .entry)) (now (out .entry)) ⌝ }
+{
+    let n = least(bytes.len(), out.len() / 2);
+    let mut k: usize = 0;
+    while k < n {
+        let w = entries::value(code, bytes[k]);
+        put(out, k, w);
+        k += 1;
+    }
+    let off = off_bytes(code, bytes, n);
+    Ran {
+        samples: n,
+        off: off,
+    }
+}
+
+// Words of 0024.
+pub fn words24(bytes: &[u8], out: &mut [i32]) -> Ran
+    ensures { λ r. ⌜ r ≡ ran (wordsIn 2) (plainValue 0x0024 2) (now (bytes .entry)) (now (out .entry)) ⌝ }
+    ensures { λ r. ⌜ now (out .exit) ≡ filled (wordsIn 2) (plainValue 0x0024 2) (now (bytes .entry)) (now (out .entry)) ⌝ }
+{
+    let n = least(bytes.len() / 2, out.len() / 2);
+    let mut off: usize = 0;
+    let mut k: usize = 0;
+    while k < n {
+        let w = words::value24(big2(bytes, 2 * k));
+        off = count(off, w);
+        put(out, k, w);
+        k += 1;
+    }
+    Ran {
+        samples: n,
+        off: off,
+    }
+}
+
+// Words of 0044.
+pub fn words44(bytes: &[u8], out: &mut [i32]) -> Ran
+    ensures { λ r. ⌜ r ≡ ran (wordsIn 2) (plainValue 0x0044 2) (now (bytes .entry)) (now (out .entry)) ⌝ }
+    ensures { λ r. ⌜ now (out .exit) ≡ filled (wordsIn 2) (plainValue 0x0044 2) (now (bytes .entry)) (now (out .entry)) ⌝ }
+{
+    let n = least(bytes.len() / 2, out.len() / 2);
+    let mut off: usize = 0;
+    let mut k: usize = 0;
+    while k < n {
+        let w = words::value44(big2(bytes, 2 * k));
+        off = count(off, w);
+        put(out, k, w);
+        k += 1;
+    }
+    Ran {
+        samples: n,
+        off: off,
+    }
+}
+
+// Words of 0048.
+pub fn words48(bytes: &[u8], out: &mut [i32]) -> Ran
+    ensures { λ r. ⌜ r ≡ ran (wordsIn 4) (plainValue 0x0048 4) (now (bytes .entry)) (now (out .entry)) ⌝ }
+    ensures { λ r. ⌜ now (out .exit) ≡ filled (wordsIn 4) (plainValue 0x0048 4) (now (bytes .entry)) (now (out .entry)) ⌝ }
+{
+    let n = least(bytes.len() / 4, out.len() / 2);
+    let mut off: usize = 0;
+    let mut k: usize = 0;
+    while k < n {
+        let w = words::value48(big4(bytes, 4 * k));
+        off = count(off, w);
+        put(out, k, w);
+        k += 1;
+    }
+    Ran {
+        samples: n,
+        off: off,
+    }
+}
+
 // The exponent of word k of groups of 0015, in the lowest four bits.
 fn group_exponent(bytes: &[u8], k: usize) -> u32
     requires { ⌜ 10 * (k / 4) + 1 < length (now bytes) ⌝ }
@@ -101,7 +227,7 @@ fn group_exponent(bytes: &[u8], k: usize) -> u32
 
 // Word k of groups of 0015.
 fn group_word(bytes: &[u8], k: usize) -> u16
-    requires { ⌜ 10 * (k / 4) + 9 < length (now bytes) ⌝ }
+    requires { ⌜ 10 * (k / 4) + 2 + 2 * (k % 4) + 1 < length (now bytes) ⌝ }
     ensures { λ r. ⌜ r ≡ groupWord (now (bytes .entry)) k ⌝ }
 {
     big2(bytes, 10 * (k / 4) + 2 + 2 * (k % 4))
@@ -125,8 +251,8 @@ fn sample15(bytes: &[u8], exponents: u32, g: usize, j: usize, out: &mut [i32]) -
 }
 
 // The first groups of 0015, as far as n samples fill them: the exponents of a group are read once.
-fn groups(bytes: &[u8], n: usize, out: &mut [i32]) -> usize
-    requires { ⌜ n ≡ min (length (now bytes) / 10 * 4) (length (now out) / 2) ⌝ }
+fn whole_groups(bytes: &[u8], n: usize, out: &mut [i32]) -> usize
+    requires { ⌜ n ≡ min (groupedIn (length (now bytes))) (length (now out) / 2) ⌝ }
     ensures { λ r. ⌜ r ≡ offs (groupedValue 0x0015 (now (bytes .entry))) (n / 4 * 4) ⌝ }
     ensures { λ _. ⌜ now (out .exit) ≡ over (numbers (groupedValue 0x0015 (now (bytes .entry))) (n / 4 * 4)) (now (out .entry)) ⌝ }
 {
@@ -144,144 +270,49 @@ fn groups(bytes: &[u8], n: usize, out: &mut [i32]) -> usize
     off
 }
 
-// Off-rule words of one byte, with one word more.
-fn count_byte(off: u8, code: u16, b: u8) -> u8
-    requires { ⌜ off < 255 ⌝ }
-    ensures { λ r. ⌜ r ≡ off + byteOne code b ⌝ }
+// The words that n bytes of groups of 0015 hold.
+fn grouped_in(n: usize) -> usize
+    ensures { λ r. ⌜ r ≡ groupedIn n ⌝ }
 {
-    if words::off_byte(code, b) {
-        off + 1
-    } else {
-        off
+    let rest = n % 10;
+    if rest < 2 {
+        return n / 10 * 4;
     }
+    n / 10 * 4 + (rest - 2) / 2
 }
 
-// The off-rule words among bytes k to e. Their count is a byte, as they are: so many of them are looked at in one instruction.
-fn off_few(code: u16, bytes: &[u8], k: usize, e: usize) -> u8
-    requires { ⌜ (k ≤ e) × (e ≤ k + 255) × (e ≤ length (now bytes)) ⌝ }
-    ensures { λ r. ⌜ Between code (now (bytes .entry)) k e r ⌝ }
-{
-    let mut off: u8 = 0;
-    let mut i = k;
-    while i < e {
-        off = count_byte(off, code, bytes[i]);
-        i += 1;
-    }
-    off
-}
-
-// The end of the next bytes to count: of 224, which the compiled loop takes 32 at a turn, or of those that are left.
-fn next_few(k: usize, n: usize) -> usize
-    requires { ⌜ k < n ⌝ }
-    ensures { λ r. ⌜ (k < r) × (r ≤ n) × (r ≤ k + 255) ⌝ }
-{
-    if n - k <= 224 { n } else { k + 224 }
-}
-
-// The off-rule words among the first n bytes.
-fn off_bytes(code: u16, bytes: &[u8], n: usize) -> usize
-    requires { ⌜ n ≤ length (now bytes) ⌝ }
-    ensures { λ r. ⌜ Between code (now (bytes .entry)) 0 n r ⌝ }
-{
-    let mut off: usize = 0;
-    let mut k: usize = 0;
-    while k < n {
-        let e = next_few(k, n);
-        off += off_few(code, bytes, k, e) as usize;
-        k = e;
-    }
-    off
-}
-
-// Words of one byte, by the table lent. Off-rule words are counted apart, since that takes less than to count each with its sample.
-pub fn bytes_by(code: u16, table: &[u64], bytes: &[u8], out: &mut [i32]) -> Ran
-    ensures { λ r. ⌜ r ≡ ran 1 1 (tableValue code (now (table .entry))) (now (bytes .entry)) (now (out .entry)) ⌝ }
-    ensures { λ r. ⌜ now (out .exit) ≡ filled 1 1 (tableValue code (now (table .entry))) (now (bytes .entry)) (now (out .entry)) ⌝ }
-{
-    let n = least(bytes.len(), out.len() / 2);
-    let mut k: usize = 0;
-    while k < n {
-        let w = words::by_entry(code, table, bytes[k]);
-        put(out, k, w);
-        k += 1;
-    }
-    let off = off_bytes(code, bytes, n);
-    Ran {
-        samples: n,
-        off: off,
-    }
-}
-
-// Words of 0024.
-pub fn words24(bytes: &[u8], out: &mut [i32]) -> Ran
-    ensures { λ r. ⌜ r ≡ ran 2 1 (plainValue 0x0024 2) (now (bytes .entry)) (now (out .entry)) ⌝ }
-    ensures { λ r. ⌜ now (out .exit) ≡ filled 2 1 (plainValue 0x0024 2) (now (bytes .entry)) (now (out .entry)) ⌝ }
-{
-    let n = least(bytes.len() / 2, out.len() / 2);
-    let mut off: usize = 0;
-    let mut k: usize = 0;
-    while k < n {
-        let w = words::value24(big2(bytes, 2 * k));
-        off = count(off, w);
-        put(out, k, w);
-        k += 1;
-    }
-    Ran {
-        samples: n,
-        off: off,
-    }
-}
-
-// Words of 0044.
-pub fn words44(bytes: &[u8], out: &mut [i32]) -> Ran
-    ensures { λ r. ⌜ r ≡ ran 2 1 (plainValue 0x0044 2) (now (bytes .entry)) (now (out .entry)) ⌝ }
-    ensures { λ r. ⌜ now (out .exit) ≡ filled 2 1 (plainValue 0x0044 2) (now (bytes .entry)) (now (out .entry)) ⌝ }
-{
-    let n = least(bytes.len() / 2, out.len() / 2);
-    let mut off: usize = 0;
-    let mut k: usize = 0;
-    while k < n {
-        let w = words::value44(big2(bytes, 2 * k));
-        off = count(off, w);
-        put(out, k, w);
-        k += 1;
-    }
-    Ran {
-        samples: n,
-        off: off,
-    }
-}
-
-// Words of 0048.
-pub fn words48(bytes: &[u8], out: &mut [i32]) -> Ran
-    ensures { λ r. ⌜ r ≡ ran 4 1 (plainValue 0x0048 4) (now (bytes .entry)) (now (out .entry)) ⌝ }
-    ensures { λ r. ⌜ now (out .exit) ≡ filled 4 1 (plainValue 0x0048 4) (now (bytes .entry)) (now (out .entry)) ⌝ }
-{
-    let n = least(bytes.len() / 4, out.len() / 2);
-    let mut off: usize = 0;
-    let mut k: usize = 0;
-    while k < n {
-        let w = words::value48(big4(bytes, 4 * k));
-        off = count(off, w);
-        put(out, k, w);
-        k += 1;
-    }
-    Ran {
-        samples: n,
-        off: off,
-    }
-}
-
-// Groups of 0015.
+// Groups of 0015; of the last, those of its words that are there.
 pub fn groups15(bytes: &[u8], out: &mut [i32]) -> Ran
-    ensures { λ r. ⌜ r ≡ ran 10 4 (groupedValue 0x0015) (now (bytes .entry)) (now (out .entry)) ⌝ }
-    ensures { λ r. ⌜ now (out .exit) ≡ filled 10 4 (groupedValue 0x0015) (now (bytes .entry)) (now (out .entry)) ⌝ }
+    ensures { λ r. ⌜ r ≡ ran groupedIn (groupedValue 0x0015) (now (bytes .entry)) (now (out .entry)) ⌝ }
+    ensures { λ r. ⌜ now (out .exit) ≡ filled groupedIn (groupedValue 0x0015) (now (bytes .entry)) (now (out .entry)) ⌝ }
 {
-    let n = least(bytes.len() / 10 * 4, out.len() / 2);
-    let mut off = groups(bytes, n, out);
+    let n = least(grouped_in(bytes.len()), out.len() / 2);
+    let mut off = whole_groups(bytes, n, out);
     let mut k = n / 4 * 4;
     while k < n {
         let w = words::value15(group_exponent(bytes, k), group_word(bytes, k));
+        off = count(off, w);
+        put(out, k, w);
+        k += 1;
+    }
+    Ran {
+        samples: n,
+        off: off,
+    }
+}
+
+// Words of 0015 from word j of a group on, by the group's exponents; past its fourth word these begin again, but `stream` never goes so far.
+pub fn rest15(exponents: u32, j: usize, bytes: &[u8], out: &mut [i32]) -> Ran
+    ensures { λ r. ⌜ r ≡ ran (wordsIn 2) (restValue 0x0015 exponents j) (now (bytes .entry)) (now (out .entry)) ⌝ }
+    ensures { λ r. ⌜ now (out .exit) ≡ filled (wordsIn 2) (restValue 0x0015 exponents j) (now (bytes .entry)) (now (out .entry)) ⌝ }
+{
+    let n = least(bytes.len() / 2, out.len() / 2);
+    let first = j % 4;
+    let mut off: usize = 0;
+    let mut k: usize = 0;
+    while k < n {
+        let turn = ((first + k) % 4) as u32;
+        let w = words::value15(exponents >> (12 - 4 * turn), big2(bytes, 2 * k));
         off = count(off, w);
         put(out, k, w);
         k += 1;

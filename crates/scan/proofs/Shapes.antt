@@ -3,14 +3,11 @@
 use Prim.Native.Nat.{_-_, _%_, _≤_, _<_}
 use mathlib.Core.Path.{_≡_}
 use mathlib.Core.Bool.{true}
-use native.Mathlib.Omega.{arith}
 use borrow.Author.Tests.{leb-true, eqb-true, ltb-true}
 use lib.Dec.{leb, eqb, ltb}
 use Rattle.basis.proofs.Choices.{and-true, both-true}
 use Rattle.basis.proofs.Rules.{tests}
-use Rattle.codes.specs.Codes.{rowOf, groupOf}
-use Rattle.codes.specs.declared.Found.the-variants.{Nothing}
-use Rattle.codes.proofs.Rows.{group-none}
+use Rattle.codes.specs.Codes.{groupOf}
 use Rattle.scan.specs.declared.Shape.{Shape}
 use Rattle.scan.specs.declared.State.{State}
 use Rattle.scan.specs.Fit.{Fit, fitb, countsb, trackb, shapeb, wholeb, limitsb, stopb}
@@ -45,10 +42,6 @@ shape-parts h e =
       some = leb-true _ _ (k .1);
       types = leb-true _ _ (j .1);
     }
-
--- its code has a row
-pub no-row : (h : Shape) → shapeb h ≡ true → rowOf (h .code) ≡ Nothing → ⊥
-no-row h e n = let z = group-none (h .code) n in let p = shape-parts h e .group in omega arith
 
 pub fit-of : (s : State) → fitb s ≡ true → Fit s
 unfolding fitb countsb trackb

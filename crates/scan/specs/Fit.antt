@@ -19,7 +19,7 @@ unfoldable pub limitsb : Shape → Bool
 limitsb h =
     ltb (h .code) 0x8000 && eqb (h .advance % 256) 0 && leb (h .advance) 524288 && leb 1 (h .types) && leb (h .types) 99 && leb (h .block) 8355840
 
--- what a header can say
+-- bounds that every accepted header keeps to; not every shape within them is a header's
 unfoldable pub shapeb : Shape → Bool
 shapeb h = leb 8 (h .scan) and leb (h .scan) 999999 and wholeb (h .scan) (h .code) and limitsb h
 
@@ -27,7 +27,7 @@ shapeb h = leb 8 (h .scan) and leb (h .scan) 999999 and wholeb (h .scan) (h .cod
 unfoldable pub stopb : ℕ → Bool
 stopb n = eqb n 0 or (leb 14 n and leb n 18)
 
--- what the starts of the scans can tell
+-- bounds of what the starts of the scans tell
 unfoldable pub trackb : Track → ℕ → Bool
 trackb k types = leb (k .seen) types && leb (k .itb) 1 && leb (k .twi) 1
 
@@ -35,11 +35,11 @@ trackb k types = leb (k .seen) types && leb (k .itb) 1 && leb (k .twi) 1
 unfoldable pub countsb : State → Bool
 countsb s = leb (s .ends) (s .place) && leb (s .off) (s .place) && leb (s .stopat) (s .place) && leb (s .exponents) 65535
 
--- STATE is for all others
+-- the fit states; STATE is for all others
 unfoldable pub fitb : State → Bool
 fitb s = countsb s && trackb (s .track) (s .shape .types) && stopb (s .stop) && shapeb (s .shape)
 
--- the same as facts, which `fit-of` and `of-fit` show
+-- no second definition: the same as facts for contracts and proofs to cite; `fit-of` and `of-fit` show that it is
 pub record Fit (s : State) : Type 0 where
   pub ends : s .ends ≤ s .place
   pub off : s .off ≤ s .place

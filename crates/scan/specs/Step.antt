@@ -25,7 +25,7 @@ still s = record { state = s; wrote = false; word = none }
 
 -- "14 to 18 stop the body at a place counted from 0"
 unfoldable pub halted : State → ℕ → State
-halted s kind =
+halted s number =
     record {
       shape = s .shape;
       place = s .place;
@@ -34,13 +34,13 @@ halted s kind =
       track = s .track;
       held = s .held;
       exponents = s .exponents;
-      stop = kind;
+      stop = number;
       stopat = s .place;
     }
 
 -- a byte that stops the body writes nothing
 unfoldable pub halt : State → ℕ → Stepped
-halt s kind = still (halted s kind)
+halt s number = still (halted s number)
 
 -- the last four bytes, after one more
 unfoldable pub shift : ℕ → ℕ → ℕ
@@ -90,7 +90,7 @@ unfoldable pub marked : Track → ℕ → Track
 marked k b =
     record { timing = k .timing; seen = seen (k .seen) b; itb = pick (eqb (k .seen) 0) (field b 5 1) (k .itb); twi = k .twi; window = k .window }
 
--- PHASE: "first DP is 1, or a flip past the last scan type"
+-- no PHASE, which is "first DP is 1, or a flip past the last scan type"
 unfoldable pub phased : Track → ℕ → ℕ → Bool
 phased k types b = pick (eqb (k .seen) 0) (eqb (field b 4 1) 0) (leb (marked k b .seen) types)
 
@@ -112,7 +112,7 @@ unfoldable pub timed : Track → ℕ → ℕ → Track
 timed k held b =
     record { timing = shift held b; seen = k .seen; itb = k .itb; twi = pick (opens k held) 1 (k .twi); window = pick (opens k held) (shift held b) (k .window) }
 
--- TIMING: byte 8 is zero; "the first T is free; each next is the last plus 16 I, starting again at 2^24"
+-- no TIMING: byte 8 is zero, and T is in step: "The first T is free; each next is the last plus 16 I, starting again at 2^24"
 unfoldable pub instep : State → ℕ → Bool
 instep s b =
     eqb b 0 and (ltb (s .place) (s .shape .scan) or eqb (shift (s .held) b) ((s .track .timing + s .shape .advance) % 2 ^ 32))
@@ -147,7 +147,7 @@ grouped s b g =
     (still (moved s (s .track) (low (shift (s .held) b) 2) (s .off) b))
     (sample s (valueOf (s .shape .code) (nibble (s .exponents) g) (low (shift (s .held) b) 2)) b))
 
--- a byte of the sample words, at place q of the scan
+-- a byte of the sample words, at place q of the scan; groups of ten bytes are those of 0015
 unfoldable pub word : State → ℕ → ℕ → Stepped
 word s b q =
     pick (eqb (groupOf (s .shape .code)) 10) (grouped s b ((q - 8) % 10)) (plain s b (groupOf (s .shape .code)) q)

@@ -71,6 +71,7 @@ fn whole(scan: u32, code: u16) -> bool
     (scan - 8) % g == 0
 }
 
+// A multiplexed code, and numbers within the bounds of a header's.
 fn limits(h: Shape) -> bool
     ensures { λ r. ⌜ r ≡ limitsb h ⌝ }
 {
@@ -82,6 +83,7 @@ fn limits(h: Shape) -> bool
         & (h.block <= 8355840)
 }
 
+// What the header says of the body is within its bounds.
 fn shape_fits(h: Shape) -> bool
     ensures { λ r. ⌜ r ≡ shapeb h ⌝ }
 {
@@ -98,6 +100,7 @@ fn shape_fits(h: Shape) -> bool
     }
 }
 
+// No stop, or one of 14 to 18.
 fn stop_fits(stop: u32) -> bool
     ensures { λ r. ⌜ r ≡ stopb stop ⌝ }
 {
@@ -110,12 +113,14 @@ fn stop_fits(stop: u32) -> bool
     stop <= 18
 }
 
+// What the starts of the scans told is within its bounds.
 fn track_fits(k: Track, types: u32) -> bool
     ensures { λ r. ⌜ r ≡ trackb k types ⌝ }
 {
     (k.seen <= types) & (k.itb <= 1) & (k.twi <= 1)
 }
 
+// No more block ends or off-rule words than bytes, a stop no later than they; four exponents of 4 bits.
 fn counts_fit(s: State) -> bool
     ensures { λ r. ⌜ r ≡ countsb s ⌝ }
 {

@@ -8,12 +8,7 @@ use native.Mathlib.Omega.{arith}
 use lib.ListN.{length, getD}
 use Rattle.basis.specs.Digits.{written, byteIn}
 use Rattle.scan.specs.Step.{shift, low}
-use Rattle.stream.specs.Bulk.{lastFour}
-
--- after the first i of some bytes
-abbrev pub heldAt : List ℕ → ℕ → ℕ → ℕ
-heldAt bs h zero = h
-heldAt bs h (suc i) = shift (heldAt bs h i) (getD bs i 0)
+use Rattle.stream.specs.Bulk.{lastFour, heldAt}
 
 -- the last m + 1 of four bytes are the last m of those before, and the new one
 shift-low : (m x b : ℕ) → m ≤ 3 → b < 256 → low (shift x b) (suc m) ≡ low x m * 256 + b

@@ -1,28 +1,33 @@
 -- A part of a list that is written, and the list about it.
 -- Assumes nothing.
 use Prim.Native.Nat.{ℕ, _+_, _-_, _*_, _%_, _≤_}
-use mathlib.Core.Path.{_≡_, ap, _∙_}
+use mathlib.Core.Path.{_≡_, ap}
 use mathlib.Core.List.{List, [], _++_, append-nil}
-use native.Mathlib.Nat.{min-le-left, zero-add, mod-add-mod}
+use native.Mathlib.Nat.{min-le-left}
 use native.Mathlib.Omega.{arith}
 use lib.IntN.{ℤ}
 use lib.ListN.{length, length-take, take, drop, length-drop, drop-of-length-le}
 use lib.Seq.{length-take-le, take-all}
 use Rattle.runs.specs.Runs.{over}
 use Rattle.scan.specs.declared.State.{State}
-use Rattle.scan.specs.Step.{wrote}
 use Rattle.scan.proofs.Fold.{wrote-length}
 use Rattle.stream.specs.declared.Chunk.{Chunk}
-use Rattle.stream.specs.Bulk.{Ahead, chunk}
+use Rattle.stream.specs.Bulk.{Spread, alone, groups, rest, Ahead, chunk}
 
 pub none-ahead : (s : State) (left : ℕ) → Ahead s left 0
 none-ahead s left = record { within = omega arith; able = λ h. absurd (omega arith) }
 
--- a scan that is whole groups after its start is so from a group's first place on
-pub rest-whole : (scan q w : ℕ) → 8 ≤ q → q ≤ scan → (q - 8) % w ≡ 0 → (scan - 8) % w ≡ 0 → (scan - q) % w ≡ 0
-rest-whole scan q w lo hi p e =
-    let z : q - 8 + (scan - q) ≡ scan - 8 = omega arith in
-    (rw (p, z, zero-add) at (mod-add-mod (q - 8) w (scan - q))) ∙ e
+-- a run begins at the first place of a group, or after its exponents
+pub spread-front : {w g len : ℕ} → Spread w g len → (g ≡ 0 → ⊥) → 2 ≤ g
+spread-front (alone n f m) h = absurd (h f)
+spread-front (groups z f m) h = absurd (h f)
+spread-front (rest z two even m inside) h = two
+
+-- and words of 0015 are of two bytes
+pub spread-even : {w g len : ℕ} → Spread w g len → w ≡ 10 → len % 2 ≡ 0
+spread-even (alone n f m) e = absurd (n e)
+spread-even (groups z f m) e = m
+spread-even (rest z two even m inside) e = m
 
 pub part-len : (bs : List ℕ) (i k : ℕ) → i + k ≤ length bs → length (take (i + k - i) (drop i bs)) ≡ k
 part-len bs i k h =

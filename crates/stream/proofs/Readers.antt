@@ -1,18 +1,17 @@
--- What a row and a table that read a code's words have.
+-- The groups of a code's words.
 -- Assumes nothing.
 use Prim.Native.Nat.{ℕ, _≤_, _<_}
-use mathlib.Core.Path.{_≡_, sym, ap, _∙_}
-use mathlib.Core.List.{List}
+use mathlib.Core.Path.{_≡_}
 use native.Mathlib.Omega.{arith}
 use Rattle.codes.specs.declared.Row.{Row}
 use Rattle.codes.specs.declared.Found.the-variants.{At}
 use Rattle.codes.specs.Codes.{rowOf, groupOf, perOf, leadOf, wordBytesOf, bitsOf, groupIn, perIn, leadIn, wordBytesIn}
 use Rattle.codes.proofs.Rows.{groups, group-row, row-groups, fit, Groups, none, one, two, four, ten}
 use Rattle.scan.specs.declared.State.{State}
+use Rattle.scan.specs.Fit.{Fit}
 use Rattle.scan.proofs.Shapes.{shape-parts}
-use Rattle.stream.specs.Bulk.{Able}
-use Rattle.words.specs.Words.{valued, valueOf}
-use Rattle.words.specs.Entries.{wordBy, Reads}
+use Rattle.stream.specs.Bulk.{GroupBytes}
+use Rattle.stream.specs.Bulk as Bulk
 
 -- a word that stands alone has one, two or four bytes
 pub group-plain : (code : ℕ) → 0 < groupOf code → (groupOf code ≡ 10 → ⊥) → (0 < groupOf code) × (groupOf code ≤ 4) × (groupOf code ≡ 3 → ⊥)
@@ -61,20 +60,34 @@ row-some code r e = rw (group-row code r e) (go (row-groups code r e))
     go (four x f g i j) = omega arith
     go (ten x f g i j) = omega arith
 
-module _ {code : ℕ} {r : Row} {xs : List ℕ} (d : Reads code r xs) where
-  pub read-group : groupOf code ≡ groupIn r
-  read-group = group-row code r (d .row)
+-- the groups of a state that fits
+pub fit-width : (s : State) (w : ℕ) → Fit s → groupOf (s .shape .code) ≡ w → GroupBytes w
+fit-width s w f e = rw (← e) (go (groups (s .shape .code)))
+  where
+    some : 0 < groupOf (s .shape .code)
+    some = shape-parts (s .shape) (f .shape) .group
 
-  pub read-pos : 0 < groupOf code
-  read-pos = row-some code r (d .row)
+    go : Groups (groupOf (s .shape .code)) (perOf (s .shape .code)) (leadOf (s .shape .code)) (wordBytesOf (s .shape .code)) (bitsOf (s .shape .code)) → GroupBytes (groupOf (s .shape .code))
+    go (none x y) = absurd (omega (arith, some))
+    go (one x h g i j) = Bulk.one x
+    go (two x h g i j) = Bulk.two x
+    go (four x h g i j) = Bulk.four x
+    go (ten x h g i j) = Bulk.ten x
 
-  pub read-value : (c w : ℕ) → valued (wordBy xs r c w) ≡ valueOf code c w
-  unfolding valueOf
-  read-value c w = ap valued (d .word c w)
+pub width-some : (w : ℕ) → GroupBytes w → 0 < w
+width-some w (Bulk.one e) = omega arith
+width-some w (Bulk.two e) = omega arith
+width-some w (Bulk.four e) = omega arith
+width-some w (Bulk.ten e) = omega arith
 
--- the groups of a run that may be taken at once
-pub able-narrow : (s : State) (w len : ℕ) → Able s w len → (0 < w) × ((w ≡ 10 → ⊥) → w ≤ 4)
-able-narrow s w len a =
-    let p : 0 < groupOf (s .shape .code) = shape-parts (s .shape) (a .fit .shape) .group in
-    let e = a .group in
-    (omega (arith, e, p), λ n. let g = group-plain (s .shape .code) p (λ k. n (sym e ∙ k)) in omega (arith, e, g))
+pub width-alone : (w : ℕ) → GroupBytes w → (w ≡ 10 → ⊥) → w ≤ 4
+width-alone w (Bulk.one e) n = omega arith
+width-alone w (Bulk.two e) n = omega arith
+width-alone w (Bulk.four e) n = omega arith
+width-alone w (Bulk.ten e) n = absurd (n e)
+
+pub width-one : (w : ℕ) → GroupBytes w → (w ≡ 10 → ⊥) → (w ≡ 4 → ⊥) → (w ≡ 2 → ⊥) → w ≡ 1
+width-one w (Bulk.one e) n10 n4 n2 = e
+width-one w (Bulk.two e) n10 n4 n2 = absurd (n2 e)
+width-one w (Bulk.four e) n10 n4 n2 = absurd (n4 e)
+width-one w (Bulk.ten e) n10 n4 n2 = absurd (n10 e)

@@ -1,4 +1,4 @@
--- Whole words, and whole groups of 0015, of one scan against the step of each of their bytes.
+-- Words of one scan against the step of each of their bytes.
 -- Assumes nothing.
 use Prim.Native.Nat.{ℕ, zero, suc, _+_, _-_, _*_, _/_, _%_, _≤_, _<_}
 use mathlib.Core.Path.{_≡_, refl, sym, ap, _∙_}
@@ -18,13 +18,13 @@ use Rattle.codes.specs.Codes.{groupOf}
 use Rattle.words.specs.declared.Value.{Value}
 use Rattle.words.specs.Words.{valueOf}
 use Rattle.runs.specs.Runs.{offOne, offs}
-use Rattle.runs.specs.Words.{plainValue, groupedValue, groupExponent, groupWord}
+use Rattle.runs.specs.Words.{plainValue, groupedIn, groupedValue, groupExponent, groupWord, restValue, turnOf}
 use Rattle.runs.proofs.Done.{offs-more}
 use Rattle.scan.specs.declared.State.{State}
 use Rattle.scan.specs.declared.Stepped.{Stepped}
 use Rattle.scan.specs.Step.{step, word, plain, grouped, nibble, quiet, still, sample, moved, shift, low, counted}
-use Rattle.stream.specs.Bulk.{Able, at}
-use Rattle.stream.proofs.Held.{heldAt, held-low}
+use Rattle.stream.specs.Bulk.{Able, at, heldAt}
+use Rattle.stream.proofs.Held.{held-low}
 use Rattle.stream.proofs.Turns.{Turn, quietly, giving}
 
 -- ---- one byte among the sample words
@@ -69,11 +69,15 @@ gave t x = record { state = t; wrote = true; word = x }
 -- a byte of a run that may be taken at once: where it stands, and the states that follow it
 module _ (s : State) (bs : List ℕ) (w : ℕ) (a : Able s w (length bs)) (i : ℕ) (h : i < length bs) where
   -- its place in its word or group
-  spot : (s .place % s .shape .scan + i - 8) % w ≡ i % w
+  spot : (s .place % s .shape .scan + i - 8) % w ≡ ((s .place % s .shape .scan - 8) % w + i) % w
   spot =
       let q = s .place % s .shape .scan in
       let e : q + i - 8 ≡ q - 8 + i = omega (arith, a .low) in
-      rw (e, ← mod-add-mod (q - 8) w i, a .phase, zero-add)
+      rw e (sym (mod-add-mod (q - 8) w i))
+
+  -- where the run begins at the first place of one
+  spot-front : (s .place % s .shape .scan - 8) % w ≡ 0 → (s .place % s .shape .scan + i - 8) % w ≡ i % w
+  spot-front f = spot ∙ rw (f, zero-add)
 
   run-step : (off held e : ℕ) → step (at s i off held e) (getD bs i 0) ≡ word (at s i off held e) (getD bs i 0) (s .place % s .shape .scan + i)
   unfolding at
@@ -112,7 +116,7 @@ plain-wrote t b w q g h e k =
     let z : (q - 7) % w ≡ 0 = turn-to q w g h e ∙ rw (k, mod-self w) in
     rw (eq-eqb ((q - 7) % w) 0 z)
 
-module _ (s : State) (bs : List ℕ) (w : ℕ) (a : Able s w (length bs)) (np : w ≡ 10 → ⊥) (some : 0 < w) (few : w ≤ 4) (l : (i : ℕ) → getD bs i 0 < 256) where
+module _ (s : State) (bs : List ℕ) (w : ℕ) (a : Able s w (length bs)) (front : (s .place % s .shape .scan - 8) % w ≡ 0) (np : w ≡ 10 → ⊥) (some : 0 < w) (few : w ≤ 4) (l : (i : ℕ) → getD bs i 0 < 256) where
   abbrev pub plainAt : ℕ → State
   plainAt i = at s i (s .off + offs (plainValue (s .shape .code) w bs) (i / w)) (heldAt bs (s .held) i) (s .exponents)
 
@@ -133,7 +137,7 @@ module _ (s : State) (bs : List ℕ) (w : ℕ) (a : Able s w (length bs)) (np : 
       go (along dv md lt) =
           quietly
           (run-step s bs w a i h _ _ _ ∙ word-plain (plainAt i) (getD bs i 0) w (s .place % s .shape .scan + i) (a .group) np
-          ∙ plain-quiet (plainAt i) (getD bs i 0) w (s .place % s .shape .scan + i) (i % w) (omega (arith, a .low)) (spot s bs w a i h) lt
+          ∙ plain-quiet (plainAt i) (getD bs i 0) w (s .place % s .shape .scan + i) (i % w) (omega (arith, a .low)) (spot-front s bs w a i h front) lt
           ∙ quiet-next s bs w a i h _ _ _
           ∙ ap (λ (n : ℕ). still (at s (suc i) (s .off + offs (plainValue (s .shape .code) w bs) n) (heldAt bs (s .held) (suc i)) (s .exponents))) (sym dv))
           dv
@@ -141,7 +145,7 @@ module _ (s : State) (bs : List ℕ) (w : ℕ) (a : Able s w (length bs)) (np : 
           let d : suc i / w ≡ i / w + 1 = dv ∙ sym (add-one (i / w)) in
           giving
           (run-step s bs w a i h _ _ _ ∙ word-plain (plainAt i) (getD bs i 0) w (s .place % s .shape .scan + i) (a .group) np
-          ∙ plain-wrote (plainAt i) (getD bs i 0) w (s .place % s .shape .scan + i) (i % w) (omega (arith, a .low)) (spot s bs w a i h) e
+          ∙ plain-wrote (plainAt i) (getD bs i 0) w (s .place % s .shape .scan + i) (i % w) (omega (arith, a .low)) (spot-front s bs w a i h front) e
           ∙ sample-next s bs w a i h (plainValue (s .shape .code) w bs) (i / w) _ _ _ (word-is i e)
           ∙ ap (λ (n : ℕ). gave (at s (suc i) (s .off + offs (plainValue (s .shape .code) w bs) n) (heldAt bs (s .held) (suc i)) (s .exponents)) (plainValue (s .shape .code) w bs (i / w))) (sym d))
           d
@@ -164,13 +168,10 @@ grouped-wrote : (t : State) (b g : ℕ) → (g % 2 ≡ 0 → ⊥) → (g ≡ 1 �
 unfolding grouped pick
 grouped-wrote t b g h k = rw (ne-eqb (g % 2) 0 h, ne-eqb g 1 k)
 
--- the exponents after i bytes, and the samples that those complete
+-- the exponents after i bytes of groups
 abbrev pub exponentsAt : List ℕ → ℕ → ℕ → ℕ → ℕ
 exponentsAt bs h e zero = e
 exponentsAt bs h e (suc i) = pick (eqb (i % 10) 1) (low (heldAt bs h (suc i)) 2) (exponentsAt bs h e i)
-
-abbrev pub fours : ℕ → ℕ
-fours i = i / 10 * 4 + (i % 10 - 2) / 2
 
 module _ (bs : List ℕ) (h e : ℕ) (l : (i : ℕ) → getD bs i 0 < 256) where
   -- from its second byte to its end a group's exponents are its own
@@ -185,17 +186,17 @@ module _ (bs : List ℕ) (h e : ℕ) (l : (i : ℕ) → getD bs i 0 < 256) where
       let no : (10 * j + 2 + d) % 10 ≡ 1 → ⊥ = λ x. omega arith in
       rw (add-suc (10 * j + 2) d, ne-eqb ((10 * j + 2 + d) % 10) 1 no) (exponents-are j d (omega arith))
 
-module _ (s : State) (bs : List ℕ) (a : Able s 10 (length bs)) (l : (i : ℕ) → getD bs i 0 < 256) where
+module _ (s : State) (bs : List ℕ) (a : Able s 10 (length bs)) (front : (s .place % s .shape .scan - 8) % 10 ≡ 0) (l : (i : ℕ) → getD bs i 0 < 256) where
   abbrev pub groupedAt : ℕ → State
-  groupedAt i = at s i (s .off + offs (groupedValue (s .shape .code) bs) (fours i)) (heldAt bs (s .held) i) (exponentsAt bs (s .held) (s .exponents) i)
+  groupedAt i = at s i (s .off + offs (groupedValue (s .shape .code) bs) (groupedIn i)) (heldAt bs (s .held) i) (exponentsAt bs (s .held) (s .exponents) i)
 
   group-is : (i : ℕ) → (i % 10 % 2 ≡ 0 → ⊥) → (i % 10 ≡ 1 → ⊥)
-      → valueOf (s .shape .code) (nibble (exponentsAt bs (s .held) (s .exponents) i) (i % 10)) (low (heldAt bs (s .held) (suc i)) 2) ≡ groupedValue (s .shape .code) bs (fours i)
-  unfolding groupedValue groupExponent groupWord nibble
+      → valueOf (s .shape .code) (nibble (exponentsAt bs (s .held) (s .exponents) i) (i % 10)) (low (heldAt bs (s .held) (suc i)) 2) ≡ groupedValue (s .shape .code) bs (groupedIn i)
+  unfolding groupedIn groupedValue groupExponent turnOf groupWord nibble
   group-is i odd big =
       let j = i / 10 in
-      let four : fours i / 4 ≡ i / 10 = omega arith in
-      let part : fours i % 4 ≡ (i % 10 - 2) / 2 = omega arith in
+      let four : groupedIn i / 4 ≡ i / 10 = omega arith in
+      let part : groupedIn i % 4 ≡ (i % 10 - 2) / 2 = omega arith in
       let from : 10 * (i / 10) + 2 + (i % 10 - 2) ≡ i = omega arith in
       let bit : 18 - 2 * (i % 10) ≡ 12 - 4 * ((i % 10 - 2) / 2) = omega arith in
       let place : 10 * (i / 10) + 2 + 2 * ((i % 10 - 2) / 2) + 2 ≡ suc i = omega arith in
@@ -205,43 +206,94 @@ module _ (s : State) (bs : List ℕ) (a : Able s 10 (length bs)) (l : (i : ℕ) 
       ∙ ap (λ (x : ℕ). valueOf (s .shape .code) (field (written 256 (byteIn bs) (10 * (i / 10)) 2) (18 - 2 * (i % 10)) 4) x)
       (rw place at (held-low bs (s .held) l (10 * (i / 10) + 2 + 2 * ((i % 10 - 2) / 2)) 2 (omega arith))))
 
-  quiet-fours : (i : ℕ) → i % 10 % 2 ≡ 0 → fours (suc i) ≡ fours i
-  quiet-fours i e = omega arith
+  quiet-words : (i : ℕ) → i % 10 % 2 ≡ 0 → groupedIn (suc i) ≡ groupedIn i
+  unfolding groupedIn
+  quiet-words i e = omega arith
 
-  lead-fours : (i : ℕ) → i % 10 ≡ 1 → fours (suc i) ≡ fours i
-  lead-fours i e = omega arith
+  lead-words : (i : ℕ) → i % 10 ≡ 1 → groupedIn (suc i) ≡ groupedIn i
+  unfolding groupedIn
+  lead-words i e = omega arith
 
-  wrote-fours : (i : ℕ) → (i % 10 % 2 ≡ 0 → ⊥) → (i % 10 ≡ 1 → ⊥) → fours (suc i) ≡ fours i + 1
-  wrote-fours i odd big = omega arith
+  wrote-words : (i : ℕ) → (i % 10 % 2 ≡ 0 → ⊥) → (i % 10 ≡ 1 → ⊥) → groupedIn (suc i) ≡ groupedIn i + 1
+  unfolding groupedIn
+  wrote-words i odd big = omega arith
 
-  pub grouped-turn : (i : ℕ) → i < length bs → Turn bs groupedAt fours (groupedValue (s .shape .code) bs) i
+  pub grouped-turn : (i : ℕ) → i < length bs → Turn bs groupedAt groupedIn (groupedValue (s .shape .code) bs) i
   unfolding at pick
   grouped-turn i h = go (eqb (i % 10 % 2) 0) (eqb (i % 10) 1) refl refl
     where
-      led : (e : ℕ) → exponentsAt bs (s .held) (s .exponents) (suc i) ≡ e → fours (suc i) ≡ fours i → still (at s (suc i) (s .off + offs (groupedValue (s .shape .code) bs) (fours i)) (heldAt bs (s .held) (suc i)) e) ≡ still (groupedAt (suc i))
+      led : (e : ℕ) → exponentsAt bs (s .held) (s .exponents) (suc i) ≡ e → groupedIn (suc i) ≡ groupedIn i → still (at s (suc i) (s .off + offs (groupedValue (s .shape .code) bs) (groupedIn i)) (heldAt bs (s .held) (suc i)) e) ≡ still (groupedAt (suc i))
       led e x d = rw (x, d)
 
       begin : step (groupedAt i) (getD bs i 0) ≡ grouped (groupedAt i) (getD bs i 0) (i % 10)
-      begin = run-step s bs 10 a i h _ _ _ ∙ word-grouped (groupedAt i) (getD bs i 0) (s .place % s .shape .scan + i) (i % 10) (a .group) (spot s bs 10 a i h)
+      begin = run-step s bs 10 a i h _ _ _ ∙ word-grouped (groupedAt i) (getD bs i 0) (s .place % s .shape .scan + i) (i % 10) (a .group) (spot-front s bs 10 a i h front)
 
-      go : (t u : Bool) → eqb (i % 10 % 2) 0 ≡ t → eqb (i % 10) 1 ≡ u → Turn bs groupedAt fours (groupedValue (s .shape .code) bs) i
+      go : (t u : Bool) → eqb (i % 10 % 2) 0 ≡ t → eqb (i % 10) 1 ≡ u → Turn bs groupedAt groupedIn (groupedValue (s .shape .code) bs) i
       go true u p q =
           let even : i % 10 % 2 ≡ 0 = eqb-true (i % 10 % 2) 0 p in
           quietly
           (begin ∙ grouped-quiet (groupedAt i) (getD bs i 0) (i % 10) even ∙ quiet-next s bs 10 a i h _ _ _
-          ∙ led _ (rw (ne-eqb (i % 10) 1 (λ x. omega arith))) (quiet-fours i even))
-          (quiet-fours i even)
+          ∙ led _ (rw (ne-eqb (i % 10) 1 (λ x. omega arith))) (quiet-words i even))
+          (quiet-words i even)
       go false true p q =
           let one : i % 10 ≡ 1 = eqb-true (i % 10) 1 q in
           quietly
           (begin ∙ grouped-lead (groupedAt i) (getD bs i 0) (i % 10) one ∙ ap still (at-next s i _ _ _ _ _ (getD bs i 0))
-          ∙ led _ (rw (eq-eqb (i % 10) 1 one)) (lead-fours i one))
-          (lead-fours i one)
+          ∙ led _ (rw (eq-eqb (i % 10) 1 one)) (lead-words i one))
+          (lead-words i one)
       go false false p q =
           let odd : i % 10 % 2 ≡ 0 → ⊥ = eqb-false (i % 10 % 2) 0 p in
           let big : i % 10 ≡ 1 → ⊥ = eqb-false (i % 10) 1 q in
           giving
           (begin ∙ grouped-wrote (groupedAt i) (getD bs i 0) (i % 10) odd big
-          ∙ sample-next s bs 10 a i h (groupedValue (s .shape .code) bs) (fours i) _ _ _ (group-is i odd big)
-          ∙ rw (ne-eqb (i % 10) 1 big, wrote-fours i odd big))
-          (wrote-fours i odd big)
+          ∙ sample-next s bs 10 a i h (groupedValue (s .shape .code) bs) (groupedIn i) _ _ _ (group-is i odd big)
+          ∙ rw (ne-eqb (i % 10) 1 big, wrote-words i odd big))
+          (wrote-words i odd big)
+
+-- ---- what is left of a group of 0015
+
+-- where the exponent of the word that ends i bytes after place g stands, by the words before it
+word-bit : (g i : ℕ) → 2 ≤ g → g % 2 ≡ 0 → (i % 2 ≡ 0 → ⊥) → g + i < 10 → 18 - 2 * (g + i) ≡ 12 - 4 * (((g - 2) / 2 + i / 2) % 4)
+word-bit g i two even odd h =
+    let a : 2 * ((g - 2) / 2) + 2 ≡ g = omega arith in
+    let b : 2 * (i / 2) + 1 ≡ i = omega arith in
+    let c : ((g - 2) / 2 + i / 2) % 4 ≡ (g - 2) / 2 + i / 2 = mod-eq-of-lt (omega arith) in
+    rw c (omega arith)
+
+module _ (s : State) (bs : List ℕ) (a : Able s 10 (length bs)) (g : ℕ) (place : (s .place % s .shape .scan - 8) % 10 ≡ g) (two : 2 ≤ g) (even : g % 2 ≡ 0) (inside : g + length bs ≤ 10) (l : (i : ℕ) → getD bs i 0 < 256) where
+  abbrev pub restAt : ℕ → State
+  restAt i = at s i (s .off + offs (restValue (s .shape .code) (s .exponents) ((g - 2) / 2) bs) (i / 2)) (heldAt bs (s .held) i) (s .exponents)
+
+  abbrev pub pairs : ℕ → ℕ
+  pairs i = i / 2
+
+  rest-is : (i : ℕ) → i < length bs → (i % 2 ≡ 0 → ⊥) → valueOf (s .shape .code) (nibble (s .exponents) (g + i)) (low (heldAt bs (s .held) (suc i)) 2) ≡ restValue (s .shape .code) (s .exponents) ((g - 2) / 2) bs (i / 2)
+  unfolding restValue turnOf nibble
+  rest-is i h odd =
+      let bit = word-bit g i two even odd (omega arith) in
+      let end : 2 * (i / 2) + 2 ≡ suc i = omega arith in
+      rw (← bit) (ap (λ (x : ℕ). valueOf (s .shape .code) (field (s .exponents) (18 - 2 * (g + i)) 4) x) (rw end at (held-low bs (s .held) l (2 * (i / 2)) 2 (omega arith))))
+
+  pub rest-turn : (i : ℕ) → i < length bs → Turn bs restAt pairs (restValue (s .shape .code) (s .exponents) ((g - 2) / 2) bs) i
+  unfolding at
+  rest-turn i h = go (eqb (i % 2) 0) refl
+    where
+      begin : step (restAt i) (getD bs i 0) ≡ grouped (restAt i) (getD bs i 0) (g + i)
+      begin = run-step s bs 10 a i h _ _ _ ∙ word-grouped (restAt i) (getD bs i 0) (s .place % s .shape .scan + i) (g + i) (a .group) (spot s bs 10 a i h ∙ rw place (mod-eq-of-lt (omega arith)))
+
+      go : (t : Bool) → eqb (i % 2) 0 ≡ t → Turn bs restAt pairs (restValue (s .shape .code) (s .exponents) ((g - 2) / 2) bs) i
+      go true p =
+          let first : i % 2 ≡ 0 = eqb-true (i % 2) 0 p in
+          let d : suc i / 2 ≡ i / 2 = omega arith in
+          quietly
+          (begin ∙ grouped-quiet (restAt i) (getD bs i 0) (g + i) (omega arith) ∙ quiet-next s bs 10 a i h _ _ _
+          ∙ ap (λ (n : ℕ). still (at s (suc i) (s .off + offs (restValue (s .shape .code) (s .exponents) ((g - 2) / 2) bs) n) (heldAt bs (s .held) (suc i)) (s .exponents))) (sym d))
+          d
+      go false p =
+          let odd : i % 2 ≡ 0 → ⊥ = eqb-false (i % 2) 0 p in
+          let d : suc i / 2 ≡ i / 2 + 1 = omega arith in
+          giving
+          (begin ∙ grouped-wrote (restAt i) (getD bs i 0) (g + i) (λ x. omega arith) (λ x. omega arith)
+          ∙ sample-next s bs 10 a i h (restValue (s .shape .code) (s .exponents) ((g - 2) / 2) bs) (i / 2) _ _ _ (rest-is i h odd)
+          ∙ ap (λ (n : ℕ). gave (at s (suc i) (s .off + offs (restValue (s .shape .code) (s .exponents) ((g - 2) / 2) bs) n) (heldAt bs (s .held) (suc i)) (s .exponents)) (restValue (s .shape .code) (s .exponents) ((g - 2) / 2) bs (i / 2))) (sym d))
+          d

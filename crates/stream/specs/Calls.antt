@@ -16,7 +16,7 @@ use Rattle.stream.specs.declared.Gave.{Gave}
 use Rattle.stream.specs.declared.Answer.{Answer}
 use Rattle.stream.specs.declared.Answer.the-variants.{GoingOn, Stopped, Refused}
 
--- "14 to 18 stop the body": the refusal of a stop's number and place
+-- "14 to 18 stop the body": the refusal of a stop's number and place; PHASE for 18 and for any number that no stop has
 unfoldable pub stopRefusal : ℕ → ℕ → Refusal
 stopRefusal number place =
     pick (eqb number 14) (R.Long place)
@@ -32,7 +32,7 @@ answered s n = pick (eqb (s .stop) 0) (GoingOn (n / 2)) (Stopped (n / 2) (stopRe
 unfoldable pub unchanged : State → Refusal → Gave
 unchanged s r = record { state = s; answer = Refused r }
 
--- byte by byte
+-- a portion with room enough: its bytes one by one
 unfoldable pub fed : State → List ℕ → Gave
 fed s bs = record { state = after s bs; answer = answered (after s bs) (length (wrote s bs)) }
 
@@ -51,10 +51,10 @@ taken s bs room =
 unfoldable pub portion : State → List ℕ → ℕ → Gave
 portion s bs room = pick (fitb s) (taken s bs room) (unchanged s R.State)
 
--- the numbers that it writes
+-- the numbers that a portion writes from a fit state
 unfoldable pub kept : State → List ℕ → ℕ → List ℤ
 kept s bs room = pick (eqb (s .stop) 0) (pick (lacksRoom room (length bs)) [] (wrote s bs)) []
 
--- none from an unfit state
+-- the numbers that a portion writes: none from an unfit state
 unfoldable pub written : State → List ℕ → ℕ → List ℤ
 written s bs room = pick (fitb s) (kept s bs room) []

@@ -18,6 +18,6 @@ leads w q = pick (eqb w 10) (eqb ((q - 8) % 10) 1) false
 unfoldable pub exponent : ℕ → ℕ → ℕ → ℕ
 exponent w q e = pick (eqb w 10) (nibble e ((q - 8) % 10)) 0
 
--- the bytes of a word
+-- the bytes of a word, as wordBytesOf of codes has them, by the bytes of its group
 unfoldable pub wordBytes : ℕ → ℕ
 wordBytes w = pick (eqb w 10) 2 w

@@ -1,5 +1,4 @@
 // One byte of a body, by its place in the scan.
-use codes::Row;
 use scan::Shape;
 use scan::State;
 use scan::Stepped;
@@ -9,7 +8,7 @@ ghost use mathlib.Core.Path.{_≡_};
 ghost use Prim.Native.Nat.{_≤_, _<_};
 ghost use Rattle.scan.specs.Step as Step;
 ghost use Rattle.scan.specs.Fit.{Fit};
-ghost use Rattle.words.specs.Entries.{Reads};
+ghost use Rattle.codes.specs.Codes.{groupOf};
 ghost use Rattle.stream.specs.Spots as Spots;
 
 // A state as it is, with nothing written.
@@ -27,12 +26,12 @@ fn still(s: State) -> Stepped
     }
 }
 
-// The body stops here.
-fn halt(s: State, kind: u32) -> Stepped
-    ensures { λ r. ⌜ r ≡ Step.halt s kind ⌝ }
+// The body stops here, by the refusal of this number.
+fn halt(s: State, number: u32) -> Stepped
+    ensures { λ r. ⌜ r ≡ Step.halt s number ⌝ }
 {
     let mut t = s;
-    t.stop = kind;
+    t.stop = number;
     t.stopat = t.place;
     still(t)
 }
@@ -58,6 +57,7 @@ pub(crate) fn moved(s: State, k: Track, e: u32, off: u32, b: u8) -> State
     t
 }
 
+// A byte that only moves the place on.
 fn quiet(s: State, b: u8) -> Stepped
     requires { ⌜ s .place < 4294967295 ⌝ }
     ensures { λ r. ⌜ r ≡ Step.quiet s b ⌝ }
@@ -65,7 +65,7 @@ fn quiet(s: State, b: u8) -> Stepped
     still(moved(s, s.track, s.exponents, s.off, b))
 }
 
-// Whether the block has all its scans: no byte may follow.
+// Whether no byte may follow: the block has all its scans, or a body of one block has ended.
 pub(crate) fn full(h: Shape, place: u32, ends: u32) -> bool
     requires { ⌜ 8 ≤ h .scan ⌝ }
     ensures { λ r. ⌜ r ≡ Step.full h place ends ⌝ }
@@ -84,6 +84,7 @@ fn sync(s: State, b: u8) -> Stepped
     if b == 255 { quiet(s, b) } else { halt(s, 16) }
 }
 
+// The first byte of a scan: BLOCK, then its sync.
 fn start(s: State, b: u8) -> Stepped
     requires { ⌜ (s .place < 4294967295) × (8 ≤ s .shape .scan) ⌝ }
     ensures { λ r. ⌜ r ≡ Step.start s b ⌝ }
@@ -126,6 +127,7 @@ pub(crate) fn phased(k: Track, types: u32, b: u8) -> bool
     t.seen <= types
 }
 
+// Byte 4 of a scan: its last two sync bits, and DP.
 fn mark(s: State, b: u8) -> Stepped
     requires { ⌜ (s .place < 4294967295) × (s .track .seen ≤ 99) ⌝ }
     ensures { λ r. ⌜ r ≡ Step.mark s b ⌝ }
@@ -140,7 +142,7 @@ fn mark(s: State, b: u8) -> Stepped
     }
 }
 
-// Byte 8 tells the timing word, and of the first scan with TWI set the window's.
+// Byte 8 tells the timing word; that of the first scan with TWI set is kept as the window.
 pub(crate) fn timed(k: Track, held: u32, b: u8) -> Track
     ensures { λ r. ⌜ r ≡ Step.timed k held b ⌝ }
 {
@@ -170,6 +172,7 @@ pub(crate) fn instep(s: State, b: u8) -> bool
     shift(s.held, b) == std::num::wrapping_add_u32(s.track.timing, s.shape.advance)
 }
 
+// Byte 8 of a scan: TIMING.
 fn time(s: State, b: u8) -> Stepped
     requires { ⌜ s .place < 4294967295 ⌝ }
     ensures { λ r. ⌜ r ≡ Step.time s b ⌝ }
@@ -203,6 +206,7 @@ fn nibble(e: u32, g: u32) -> u32
     (e >> (18 - 2 * g)) % 16
 }
 
+// Off-rule words, with one word more.
 fn counted(off: u32, w: Value) -> u32
     requires { ⌜ off < 4294967295 ⌝ }
     ensures { λ r. ⌜ r ≡ Step.counted off w ⌝ }
@@ -235,7 +239,7 @@ fn word_ends(w: u32, q: u32) -> bool
     (g % 2 != 0) & (g != 1)
 }
 
-// Whether the exponents of a group do.
+// Whether the exponents of a group end at place q.
 fn leads(w: u32, q: u32) -> bool
     requires { ⌜ 8 ≤ q ⌝ }
     ensures { λ r. ⌜ r ≡ Spots.leads w q ⌝ }
@@ -264,17 +268,16 @@ fn word_bytes(w: u32) -> u32
     if w == 10 { 2 } else { w }
 }
 
-// A byte of the sample words, q its place in the scan. There is no other call of `read`, so it is inlined here.
-fn word(s: State, row: Row, table: &[u64], b: u8, q: u32) -> Stepped
-    requires { ⌜ Reads (s .shape .code) row (now table) ⌝ }
+// A byte of the sample words, in groups of w bytes, q its place in the scan.
+fn word(s: State, w: u32, b: u8, q: u32) -> Stepped
+    requires { ⌜ (groupOf (s .shape .code) ≡ w) × (0 < w) ⌝ }
     requires { ⌜ (s .place < 4294967295) × (s .off ≤ s .place) × (8 ≤ q) ⌝ }
     ensures { λ r. ⌜ r ≡ Step.word s b q ⌝ }
 {
-    let w = codes::group_in(row);
     let held = shift(s.held, b);
     if word_ends(w, q) {
         let c = exponent(w, q, s.exponents);
-        return sample(s, words::read(row, table, c, low(held, word_bytes(w))), b);
+        return sample(s, words::read(s.shape.code, c, low(held, word_bytes(w))), b);
     }
     if leads(w, q) {
         return still(moved(s, s.track, low(held, 2), s.off, b));
@@ -282,10 +285,9 @@ fn word(s: State, row: Row, table: &[u64], b: u8, q: u32) -> Stepped
     quiet(s, b)
 }
 
-// One byte.
-pub(crate) fn step(s: State, row: Row, table: &[u64], b: u8) -> Stepped
-    requires { ⌜ Reads (s .shape .code) row (now table) ⌝ }
-    requires { ⌜ Fit s ⌝ }
+// One byte, of a code whose groups are of w bytes.
+pub(crate) fn step(s: State, w: u32, b: u8) -> Stepped
+    requires { ⌜ (Fit s) × (groupOf (s .shape .code) ≡ w) ⌝ }
     ensures { λ r. ⌜ r ≡ Step.step s b ⌝ }
 {
     if s.stop != 0 {
@@ -310,5 +312,5 @@ pub(crate) fn step(s: State, row: Row, table: &[u64], b: u8) -> Stepped
     if q == 7 {
         return time(s, b);
     }
-    word(s, row, table, b, q)
+    word(s, w, b, q)
 }

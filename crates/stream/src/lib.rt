@@ -20,6 +20,7 @@ pub enum Answer {
     Refused(Refusal),
 }
 
+// A call's answer, with the state after it.
 pub struct Gave {
     pub state: State,
     pub answer: Answer,
@@ -31,7 +32,7 @@ struct Chunk {
     wrote: usize,
 }
 
-// The refusal of a stop, by its number.
+// The refusal of a stop, by its number; PHASE for 18 and for any number that no stop has.
 pub fn stop_refusal(number: u32, place: u32) -> Refusal
     ensures { λ r. ⌜ r ≡ Calls.stopRefusal number place ⌝ }
 {
@@ -56,7 +57,7 @@ pub fn portion(s: State, bytes: &[u8], out: &mut [i32]) -> Gave
     ensures { λ r. ⌜ now (out .exit) ≡ over (Calls.written s (now (bytes .entry)) (length (now (out .entry)))) (now (out .entry)) ⌝ }
 {
     if scan::fit(s) {
-        feed::by_row(s, bytes, out)
+        feed::take(s, bytes, out)
     } else {
         Gave {
             state: s,

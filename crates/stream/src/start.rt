@@ -87,7 +87,7 @@ fn started(s: State, bytes: &[u8], i: usize) -> State
     moved(t, timed(t.track, t.held, b), t.exponents, t.off, b)
 }
 
-// How many of the bytes from i on are taken at once: a scan's start, or whole groups.
+// How many of the bytes from i on are taken at once: a scan's start, or whole words; 0 where neither lies ahead.
 pub(crate) fn ahead_at(s: State, w: u32, bytes: &[u8], i: usize) -> usize
     requires { ⌜ (Fit s) × (groupOf (s .shape .code) ≡ w) × (i ≤ length (now bytes)) ⌝ }
     ensures { λ r. ⌜ Starts.Next s (now (bytes .entry)) i r ⌝ }
@@ -102,14 +102,12 @@ pub(crate) fn ahead_at(s: State, w: u32, bytes: &[u8], i: usize) -> usize
 pub(crate) fn take_at(
     s: State,
     w: u32,
-    table: &[u64],
     bytes: &[u8],
     i: usize,
     k: usize,
     out: &mut [i32],
     n: usize,
 ) -> Chunk
-    requires { ⌜ Bulk.Ready (s .shape .code) w (now table) ⌝ }
     requires { ⌜ (Fit s) × (Starts.Takes s w (now bytes) i k) ⌝ }
     requires { ⌜ (i + k ≤ length (now bytes)) × (n + 2 * k ≤ length (now out)) ⌝ }
     ensures { λ r. ⌜ r ≡ Bulk.chunk s (take k (drop i (now (bytes .entry)))) ⌝ }
@@ -121,5 +119,5 @@ pub(crate) fn take_at(
             wrote: 0,
         };
     }
-    run_at(s, w, table, bytes, i, k, out, n)
+    run_at(s, w, bytes, i, k, out, n)
 }

@@ -1,22 +1,21 @@
 -- A sample from the parts of its word, and which words of a row are read.
 -- Assumes nothing.
-use Prim.Native.Nat.{ℕ, zero, suc, _+_, _-_, _^_, _<_, _≤_}
-use mathlib.Core.Path.{_≡_, refl, sym, _∙_, ap}
+use Prim.Native.Nat.{ℕ, zero, suc, _+_, _-_, _^_, _<_}
+use mathlib.Core.Path.{_≡_, sym, _∙_, ap}
 use mathlib.Core.Bool.{Bool, _||_}
 use native.Mathlib.Nat.{zero-mul, add-zero, zero-div, zero-mod}
 use native.Mathlib.Omega.{arith}
 use lib.Dec.{ltb}
 use lib.IntN.{ℤ}
-use borrow.Author.Tests.{lt-ltb, le-ltb, lt-leb}
+use borrow.Author.Tests.{lt-ltb, lt-leb}
 use Rattle.basis.specs.Choice.{pick}
 use Rattle.basis.specs.Fields.{field, joined}
 use Rattle.basis.proofs.FieldLaws.{rejoined}
-use Rattle.refusals.specs.declared.Refusal.the-variants.{Index}
 use Rattle.codes.specs.declared.Row.{Row}
 use Rattle.codes.specs.declared.Found.the-variants.{At}
 use Rattle.codes.specs.Codes.{rowOf}
 use Rattle.words.specs.declared.Value.{Value}
-use Rattle.words.specs.declared.Word.the-variants.{Sample, Refused}
+use Rattle.words.specs.declared.Word.the-variants.{Sample}
 use Rattle.words.specs.Words.{fractionOf, powerOf, offRule, sampleIn, wordIn, wordOf, valued, valueOf, signIn, fractionIn, lastIn, spareOf}
 
 pub from-parts : (r : Row) (c word : ℕ) {s e q last : ℕ} {m x : ℤ} {off : Bool}
@@ -58,12 +57,9 @@ any-bit ew n k zero (suc word) {s = s} {e = e} {q = q} {last = last} ha hw h hs 
     let g = joined-some ew n k last q e s (rw j (omega arith)) in
     rw (lt-ltb 0 (suc word) (omega arith), lt-ltb 0 (last + (s + (0 + e) + q)) (omega (arith, g)))
 
-pub same-sample : {m m′ x x′ : ℤ} {o o′ : Bool} → m ≡ m′ → x ≡ x′ → o ≡ o′ → Sample m x o ≡ Sample m′ x′ o′
-same-sample p q s = cc
-
 -- a code's word is its row's, and one that is no wider than the code's is read
 module _ (code : ℕ) (r : Row) (e : rowOf code ≡ At r) where
-  pub word-row : (c word : ℕ) → wordOf code c word ≡ wordIn r c word
+  word-row : (c word : ℕ) → wordOf code c word ≡ wordIn r c word
   unfolding wordOf
   word-row c word = rw e
 
@@ -76,17 +72,3 @@ module _ (code : ℕ) (r : Row) (e : rowOf code ≡ At r) where
       → v ≡ valued (sampleIn r c word) → v ≡ valueOf code c word
   unfolding valueOf
   value-of c word low hc hw h = h ∙ ap valued (sym (taken c word low hc hw))
-
-pos-of : (c : ℕ) → (c ≡ 0 → ⊥) → 1 ≤ c
-pos-of zero n = absurd (n refl)
-pos-of (suc c) n = omega arith
-
--- of a row of one-byte words, whose exponent stands in the word, no wider word is read
-module _ (r : Row) (low : r .code < 0x8000) (none : r .apart ≡ 0) where
-  pub wide-word : (word : ℕ) → r .width ≡ 8 → 256 ≤ word → wordIn r 0 word ≡ Refused Index
-  unfolding wordIn pick
-  wide-word word one h = rw (none, one, lt-leb 0x8000 (r .code) low, le-ltb word 256 h)
-
-  pub wide-c : (c word : ℕ) → (c ≡ 0 → ⊥) → wordIn r c word ≡ Refused Index
-  unfolding wordIn pick
-  wide-c c word n = rw (none, lt-leb 0x8000 (r .code) low, le-ltb c 1 (pos-of c n))

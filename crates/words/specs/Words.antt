@@ -17,6 +17,28 @@ use Rattle.words.specs.declared.Value.{Value}
 use Rattle.words.specs.declared.Word.{Word}
 use Rattle.words.specs.declared.Word.the-variants.{Sample, Refused}
 
+-- Letters: s is S, the sign; e the exponent, c of the page, and c what of it stands apart from the word; q is Q; n and b are the bits of q and e.
+
+-- the bits of a word below its fraction, which are not used
+abbrev pub spareOf : Row → ℕ
+spareOf r = r .width - 1 - r .exponent - r .fraction
+
+-- the parts of a word, as in "S ccc Q4": S, the first of its bits
+abbrev pub signIn : Row → ℕ → ℕ
+signIn r word = field word (r .width - r .apart - 1) 1
+
+-- c: given apart from the word, or its bits above Q
+abbrev pub exponentIn : Row → ℕ → ℕ → ℕ
+exponentIn r c word = c + field word (spareOf r + r .fraction) (r .exponent - r .apart)
+
+-- Q
+abbrev pub fractionIn : Row → ℕ → ℕ
+fractionIn r word = field word (spareOf r) (r .fraction)
+
+-- the bits not used, as the 0 of "S Q14 0"
+abbrev pub lastIn : Row → ℕ → ℕ
+lastIn r word = field word 0 (spareOf r)
+
 -- the magnitude that a negative Q of n bits keeps: "complemented", or in the others itself
 abbrev pub kept : Kind → ℕ → ℕ → ℕ
 kept OnesComplement n q = 2 ^ n - 1 - q
@@ -60,26 +82,6 @@ kindOff Justified n b s e q = signedZero s e q || notJustified n q
 -- "A word is off rule"
 unfoldable pub offRule : Kind → ℕ → ℕ → ℕ → ℕ → ℕ → ℕ → Bool
 offRule kind n b last s e q = lastBit last || kindOff kind n b s e q
-
--- the bits of a word below its fraction, which are not used
-abbrev pub spareOf : Row → ℕ
-spareOf r = r .width - 1 - r .exponent - r .fraction
-
--- the parts of a word, as in "S ccc Q4": S, the first of its bits
-abbrev pub signIn : Row → ℕ → ℕ
-signIn r word = field word (r .width - r .apart - 1) 1
-
--- c: given apart from the word, or its bits above Q
-abbrev pub exponentIn : Row → ℕ → ℕ → ℕ
-exponentIn r c word = c + field word (spareOf r + r .fraction) (r .exponent - r .apart)
-
--- Q
-abbrev pub fractionIn : Row → ℕ → ℕ
-fractionIn r word = field word (spareOf r) (r .fraction)
-
--- the bits not used, as the 0 of "S Q14 0"
-abbrev pub lastIn : Row → ℕ → ℕ
-lastIn r word = field word 0 (spareOf r)
 
 -- "Each sample is (M, X)", with its off-rule mark: one definition over a row's columns
 unfoldable pub sampleIn : Row → ℕ → ℕ → Word

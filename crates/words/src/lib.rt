@@ -6,16 +6,11 @@ ghost use lib.Dec.{ltb};
 ghost use Rattle.basis.specs.Fields.{field};
 ghost use Rattle.codes.specs.Codes.{SoundRow, row};
 ghost use Rattle.codes.specs.declared.Kind.the-variants.{OnesComplement, SignMagnitude, Justified};
-ghost use Rattle.words.specs.Entries.{signedOf, onesOf, offByte, entryIn, entryOf, tabled, wordBy};
 ghost use Rattle.words.specs.Words.{fractionOf, powerOf, lastBit, negativeZero, allOnes, offRule, sampleIn, wordIn, wordOf, valued, valueOf};
 use codes::Found;
 use codes::Kind;
 use codes::Row;
 use refusals::Refusal;
-use tables::TABLE_22;
-use tables::TABLE_42;
-
-pub mod tables;
 
 // What a word is: a sample M x 2^X and whether it is off rule; or no word of the code.
 pub enum Word {
@@ -30,6 +25,7 @@ pub struct Value {
     pub off: bool,
 }
 
+// 2 to the n.
 fn two_to(n: u32) -> u32
     requires { ⌜ n < 32 ⌝ }
     ensures { λ r. ⌜ r ≡ 2 ^ n ⌝ }
@@ -37,6 +33,7 @@ fn two_to(n: u32) -> u32
     1 << n
 }
 
+// The number of n bits that are all set.
 fn ones(n: u32) -> u32
     requires { ⌜ n < 32 ⌝ }
     ensures { λ r. ⌜ r ≡ 2 ^ n - 1 ⌝ }
@@ -44,6 +41,7 @@ fn ones(n: u32) -> u32
     two_to(n) - 1
 }
 
+// The bits of a word from `at` on, counted from its last, as many as `size`.
 fn bits(word: u32, at: u32, size: u32) -> u32
     requires { ⌜ (at < 32) × (size < 32) ⌝ }
     ensures { λ r. ⌜ r ≡ field word at size ⌝ }
@@ -84,7 +82,7 @@ fn with_sign(n: u32, s: u32, q: u32) -> i32
     }
 }
 
-// No branch on a sample's sign, which is predicted badly.
+// M, by how the fraction is kept. No way leaves a branch on a sample's sign, which would be predicted badly.
 fn fraction(kind: Kind, apart: u32, n: u32, s: u32, q: u32) -> i32
     requires { ⌜ (n < 31) × (s < 2) × (q < 2 ^ n) ⌝ }
     ensures { λ r. ⌜ r ≡ fractionOf kind n s q ⌝ }
@@ -96,6 +94,7 @@ fn fraction(kind: Kind, apart: u32, n: u32, s: u32, q: u32) -> i32
     }
 }
 
+// X.
 fn power(base: u32, bias: u32, n: u32, e: u32) -> i32
     requires { ⌜ (base * e < 2 ^ 31) × (base * bias + n < 2 ^ 31) ⌝ }
     ensures { λ r. ⌜ r ≡ powerOf base bias n e ⌝ }
@@ -104,12 +103,15 @@ fn power(base: u32, bias: u32, n: u32, e: u32) -> i32
 }
 
 // What is off rule: straight lines, since a branch on a sample's bits is predicted badly.
+
+// A bit below the fraction is set.
 fn last_bit(last: u32) -> bool
     ensures { λ r. ⌜ r ≡ lastBit last ⌝ }
 {
     0 < last
 }
 
+// The sign is set, and so is every bit of Q.
 fn negative_zero(n: u32, s: u32, q: u32) -> bool
     requires { ⌜ (n < 31) × (s < 2) × (q < 2 ^ n) ⌝ }
     ensures { λ r. ⌜ r ≡ negativeZero n s q ⌝ }
@@ -133,7 +135,7 @@ fn unjustified(n: u32, some: bool, last: u32, q: u32) -> bool
     some & (last_bit(last) | (q < two_to(n - 4)))
 }
 
-// By the parts of a word, and whether any bit of it is set.
+// Whether a word is off rule, by its parts, and whether any bit of it is set.
 fn off_rule(kind: Kind, n: u32, b: u32, some: bool, last: u32, s: u32, e: u32, q: u32) -> bool
     requires { ⌜ (4 ≤ n) × (n < 31) × (b < 31) × (s < 2) × (e < 2 ^ b) × (q < 2 ^ n) × (some ≡ ltb 0 (last + (s + e + q))) ⌝ }
     ensures { λ r. ⌜ r ≡ offRule kind n b last s e q ⌝ }
@@ -183,6 +185,7 @@ fn has_bits(word: u32, w: u32) -> bool
     word < two_to(w)
 }
 
+// The answer to a word of a row: DEMUX, INDEX, or its sample.
 fn of_row(row: Row, c: u32, word: u32) -> Word
     requires { ⌜ SoundRow row ⌝ }
     ensures { λ r. ⌜ r ≡ wordIn row c word ⌝ }
@@ -209,86 +212,10 @@ fn of_row(row: Row, c: u32, word: u32) -> Word
     Word::Refused(Refusal::Index)
 }
 
-// The number that 32 bits are in two's complement.
-fn signed(n: u32) -> i32
-    ensures { λ r. ⌜ r ≡ signedOf n ⌝ }
-{
-    if n < 0x8000_0000 {
-        return n as i32;
-    }
-    -1 - ((0xFFFF_FFFF - n) as i32)
-}
-
-// The bits that are all set in a code's off-rule words of one byte.
-fn marks(code: u16) -> u8
-    ensures { λ r. ⌜ r ≡ onesOf code ⌝ }
-{
-    if code == 0x0022 { 0x8F } else { 0xFF }
-}
-
-// Whether a word of one byte is off rule: told by the byte, so that a loop can look at many at a time.
-pub fn off_byte(code: u16, b: u8) -> bool
-    ensures { λ r. ⌜ r ≡ offByte code b ⌝ }
-{
-    let ones = marks(code);
-    b & ones == ones
-}
-
-// A byte's entry; 0 in a table that has not all of them.
-fn entry(table: &[u64], b: u8) -> u64
-    ensures { λ r. ⌜ r ≡ entryIn (now (table .entry)) b ⌝ }
-{
-    if table.len() < 256 {
-        return 0;
-    }
-    table[b as usize]
-}
-
-// The word of a byte, whose entry's halves are M and X as they stand.
-fn unpack(code: u16, table: &[u64], b: u8) -> Word
-    ensures { λ r. ⌜ r ≡ entryOf code (now (table .entry)) b ⌝ }
-{
-    let e = entry(table, b);
-    let m = signed((e % 0x1_0000_0000) as u32);
-    let x = signed((e / 0x1_0000_0000) as u32);
-    let off = off_byte(code, b);
-    Word::Sample { m, x, off }
-}
-
-// A one-byte word, by its code's table.
-fn by_table(code: u16, table: &[u64], c: u32, word: u32) -> Word
-    ensures { λ r. ⌜ r ≡ tabled code (now (table .entry)) c word ⌝ }
-{
-    if c == 0 {
-        if word < 256 {
-            return unpack(code, table, word as u8);
-        }
-    }
-    Word::Refused(Refusal::Index)
-}
-
-fn byte22(c: u32, word: u32) -> Word
-    ensures { λ r. ⌜ r ≡ wordOf 0x0022 c word ⌝ }
-{
-    by_table(0x0022, &TABLE_22, c, word)
-}
-
-fn byte42(c: u32, word: u32) -> Word
-    ensures { λ r. ⌜ r ≡ wordOf 0x0042 c word ⌝ }
-{
-    by_table(0x0042, &TABLE_42, c, word)
-}
-
-// The sample that a word of a format code is, with the exponent c that stands apart from it (0015; elsewhere 0).
+// The sample that a word of a format code is, with the exponent c that stands apart from it (0015; elsewhere 0); or FORMAT, DEMUX, INDEX.
 pub fn read_word(code: u16, c: u32, word: u32) -> Word
     ensures { λ r. ⌜ r ≡ wordOf code c word ⌝ }
 {
-    if code == 0x0022 {
-        return byte22(c, word);
-    }
-    if code == 0x0042 {
-        return byte42(c, word);
-    }
     let found = codes::find(code);
     match found {
         Found::At(row) => of_row(row, c, word),
@@ -296,6 +223,7 @@ pub fn read_word(code: u16, c: u32, word: u32) -> Word
     }
 }
 
+// A sample's numbers; 0 x 2^0, not off rule, where the word is refused.
 fn worth(w: Word) -> Value
     ensures { λ r. ⌜ r ≡ valued w ⌝ }
 {
@@ -309,31 +237,11 @@ fn worth(w: Word) -> Value
     }
 }
 
-fn word_by(row: Row, table: &[u64], c: u32, word: u32) -> Word
-    ensures { λ r. ⌜ r ≡ wordBy (now (table .entry)) row c word ⌝ }
+// The same as numbers alone.
+pub fn read(code: u16, c: u32, word: u32) -> Value
+    ensures { λ r. ⌜ r ≡ valueOf code c word ⌝ }
 {
-    if row.width == 8 {
-        return by_table(row.code, table, c, word);
-    }
-    if codes::sound(row) {
-        of_row(row, c, word)
-    } else {
-        Word::Refused(Refusal::Format)
-    }
-}
-
-// A word's sample, by its code's row, and by the table lent where the row's words are of one byte.
-pub fn read(row: Row, table: &[u64], c: u32, word: u32) -> Value
-    ensures { λ r. ⌜ r ≡ valued (wordBy (now (table .entry)) row c word) ⌝ }
-{
-    worth(word_by(row, table, c, word))
-}
-
-// A one-byte word's sample, by the table lent.
-pub fn by_entry(code: u16, table: &[u64], b: u8) -> Value
-    ensures { λ r. ⌜ r ≡ valued (tabled code (now (table .entry)) 0 b) ⌝ }
-{
-    worth(by_table(code, table, 0, b as u32))
+    worth(read_word(code, c, word))
 }
 
 // A word of 0015, with the exponent in the lowest four bits of c.

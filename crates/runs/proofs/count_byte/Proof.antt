@@ -4,24 +4,24 @@ use mathlib.Core.Path.{sym, _∙_}
 use native.Mathlib.Nat.{add-zero}
 use Rattle.basis.specs.Choice.{pick}
 use Rattle.basis.proofs.Rules.{tests}
-use Rattle.runs.specs.Words.{byteOne}
+use Rattle.runs.specs.Runs.{offOne}
 use borrow.Author.Needs.{needs}
 use Rattle.runs.proofs.count_byte.Statement.{statement}
 use Rattle.runs.proofs.count_byte.Tie as tie
 
-off-byte-requires : tie.Need-off-byte-requires
-off-byte-requires c κs = search needs
+off-requires : tie.Need-off-requires
+off-requires c κs = search needs
 
 add-result : tie.Need-add-result
 add-result c = search needs
 
 returns : tie.Need-returns
-unfolding byteOne pick
-returns c = search (tests, sym (c .before .off-byte .ensures) ∙ c .if1 .taken)
+unfolding offOne pick
+returns c = search (tests, sym (c .before .off .ensures) ∙ c .if1 .taken)
 
 returns-2 : tie.Need-returns-2
-unfolding byteOne pick
-returns-2 c = search (tests, sym (c .before .off-byte .ensures) ∙ c .if1 .left, add-zero)
+unfolding offOne pick
+returns-2 c = search (tests, sym (c .before .off .ensures) ∙ c .if1 .left, add-zero)
 
 pub count-byte-spec : {M : Type 1} → statement M
-count-byte-spec = tie.close (tie.spec off-byte-requires add-result returns returns-2)
+count-byte-spec = tie.close (tie.spec off-requires add-result returns returns-2)

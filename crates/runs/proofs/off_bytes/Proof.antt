@@ -2,7 +2,7 @@
 -- Assumes nothing.
 use Prim.Native.Nat.{_-_, zero-le}
 use native.Mathlib.Omega.{arith}
-use Rattle.runs.proofs.Apart.{Counted, counted-none, counted-on, counted-end}
+use Rattle.runs.proofs.Apart.{Counted, counted-none, counted-on, counted-all}
 use Rattle.runs.proofs.off_bytes.Statement.{statement}
 use Rattle.runs.proofs.off_bytes.Tie as tie
 
@@ -26,16 +26,16 @@ cast-off c = omega arith
 
 add-off : tie.Need-add-off Inv-loop μ-loop
 add-off c =
-    omega (arith, counted-on (c .before .before .before .loop .inv) (c .before .next-few .ensures .1) (c .off-few .ensures) .few)
+    omega (arith, counted-on _ (c .before .before .before .loop .inv) (c .before .next-few .ensures .1) (c .off-few .ensures) .few)
 
 loop-less : tie.Need-loop-less Inv-loop μ-loop
 loop-less c = omega arith
 
 loop-again : tie.Need-loop-again Inv-loop μ-loop
-loop-again c = counted-on (c .before .before .before .loop .inv) (c .before .next-few .ensures .1) (c .off-few .ensures)
+loop-again c = counted-on _ (c .before .before .before .loop .inv) (c .before .next-few .ensures .1) (c .off-few .ensures)
 
 returns : tie.Need-returns Inv-loop μ-loop
-returns c = counted-end (c .before .loop .inv) (c .loop-test .left)
+returns c = counted-all (c .before .loop .inv) (c .loop-test .left)
 
 pub off-bytes-spec : {M : Type 1} → statement M
 off-bytes-spec =

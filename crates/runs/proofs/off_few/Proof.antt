@@ -30,7 +30,7 @@ loop-less c = omega arith
 loop-again : tie.Need-loop-again Inv-loop μ-loop
 loop-again c =
     let l = c .before .before .before .loop in
-    counted-more (l .inv) (c .before .before .loop-test .taken) (c .before .shared-slice-known2 .given (l .i) .fits) (c .count-byte .ensures)
+    counted-more (l .inv) (c .before .before .loop-test .taken) (c .count-byte .ensures)
 
 returns : tie.Need-returns Inv-loop μ-loop
 returns c = counted-end (c .before .loop .inv) (c .loop-test .left)

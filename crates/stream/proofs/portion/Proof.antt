@@ -13,19 +13,19 @@ use Rattle.stream.proofs.portion.Tie as tie
 fit-requires : tie.Need-fit-requires
 fit-requires c κs = search needs
 
-by-row-requires : tie.Need-by-row-requires
-by-row-requires c κs = fit-of (c .before .before .before .before .args .s) (sym (c .before .before .fit .ensures) ∙ c .before .if1 .taken)
+take-requires : tie.Need-take-requires
+take-requires c κs = fit-of (c .before .before .before .before .args .s) (sym (c .before .before .fit .ensures) ∙ c .before .if1 .taken)
 
 same-length : tie.Need-same-length
 same-length c = search needs
 
 returns : tie.Need-returns
 unfolding portion written unchanged over pick
-returns c = search (tests, sym (c .before .before .before .before .fit .ensures) ∙ c .before .before .before .if1 .taken, c .before .by-row .ensures)
+returns c = search (tests, sym (c .before .before .before .before .fit .ensures) ∙ c .before .before .before .if1 .taken, c .before .take .ensures)
 
 returns-2 : tie.Need-returns-2
 unfolding portion written unchanged over pick
 returns-2 c = search (tests, sym (c .before .fit .ensures) ∙ c .if1 .left)
 
 pub portion-spec : {M : Type 1} → statement M
-portion-spec = tie.close (tie.spec fit-requires by-row-requires same-length returns returns-2)
+portion-spec = tie.close (tie.spec fit-requires take-requires same-length returns returns-2)

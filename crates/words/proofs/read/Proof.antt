@@ -1,18 +1,20 @@
 -- `words::read` meets its contract.
 -- Assumes nothing.
+use Rattle.words.specs.Words.{valueOf}
 use Rattle.basis.proofs.Rules.{tests}
 use borrow.Author.Needs.{needs}
 use Rattle.words.proofs.read.Statement.{statement}
 use Rattle.words.proofs.read.Tie as tie
 
-word-by-requires : tie.Need-word-by-requires
-word-by-requires c κs = search needs
+read-word-requires : tie.Need-read-word-requires
+read-word-requires c κs = search needs
 
 worth-requires : tie.Need-worth-requires
 worth-requires c κs = search needs
 
 returns : tie.Need-returns
-returns c = search (tests, c .worth .ensures, c .before .word-by .ensures)
+unfolding valueOf
+returns c = search (tests, c .worth .ensures, c .before .read-word .ensures)
 
 pub read-spec : {M : Type 1} → statement M
-read-spec = tie.close (tie.spec word-by-requires worth-requires returns)
+read-spec = tie.close (tie.spec read-word-requires worth-requires returns)

@@ -1,9 +1,8 @@
 -- `stream::bulk::by_code` meets its contract.
 -- Assumes nothing.
-use denote.Ref.{now}
 use Rattle.basis.specs.Choice.{pick}
-use Rattle.stream.specs.Bulk.{valueIn, perGroup}
-use Rattle.stream.proofs.Choose.{group24, group44, group48, group15, width-is, table-is}
+use Rattle.stream.specs.Bulk.{valueIn, wordsOf}
+use Rattle.stream.proofs.Choose.{group24, group44, group48, group15, width-is, narrow}
 use borrow.Author.Needs.{needs}
 use Rattle.stream.proofs.bulk.by_code.Statement.{statement}
 use Rattle.stream.proofs.bulk.by_code.Tie as tie
@@ -15,11 +14,10 @@ same-length : tie.Need-same-length
 same-length c = search needs
 
 returns : tie.Need-returns
-unfolding valueIn perGroup pick
+unfolding valueIn wordsOf pick
 returns c =
-    let z = c .before .before .before .before .before .before in
     let e = c .before .before .before .if1 .taken in
-    let w = width-is 0x0024 _ (z .pre) e group24 in
+    let w = width-is 0x0024 _ (c .before .before .before .before .before .pre .0) e group24 in
     (rw (w, e) (c .before .words24 .ensures .0), rw (w, e) (c .before .words24 .ensures .1))
 
 words44-requires : tie.Need-words44-requires
@@ -29,11 +27,10 @@ same-length-2 : tie.Need-same-length-2
 same-length-2 c = search needs
 
 returns-2 : tie.Need-returns-2
-unfolding valueIn perGroup pick
+unfolding valueIn wordsOf pick
 returns-2 c =
-    let z = c .before .before .before .before .before .before .before in
     let e = c .before .before .before .if2 .taken in
-    let w = width-is 0x0044 _ (z .pre) e group44 in
+    let w = width-is 0x0044 _ (c .before .before .before .before .before .before .pre .0) e group44 in
     (rw (w, e) (c .before .words44 .ensures .0), rw (w, e) (c .before .words44 .ensures .1))
 
 words48-requires : tie.Need-words48-requires
@@ -43,26 +40,23 @@ same-length-3 : tie.Need-same-length-3
 same-length-3 c = search needs
 
 returns-3 : tie.Need-returns-3
-unfolding valueIn perGroup pick
+unfolding valueIn wordsOf pick
 returns-3 c =
-    let z = c .before .before .before .before .before .before .before .before in
     let e = c .before .before .before .if3 .taken in
-    let w = width-is 0x0048 _ (z .pre) e group48 in
+    let w = width-is 0x0048 _ (c .before .before .before .before .before .before .before .pre .0) e group48 in
     (rw (w, e) (c .before .words48 .ensures .0), rw (w, e) (c .before .words48 .ensures .1))
 
-groups15-requires : tie.Need-groups15-requires
-groups15-requires c κs = search needs
+by-groups-requires : tie.Need-by-groups-requires
+by-groups-requires c κs = c .before .before .before .before .before .before .pre .3
 
 same-length-4 : tie.Need-same-length-4
 same-length-4 c = search needs
 
 returns-4 : tie.Need-returns-4
-unfolding valueIn perGroup pick
 returns-4 c =
-    let z = c .before .before .before .before .before .before .before .before .before in
     let e = c .before .before .before .if4 .taken in
-    let w = width-is 0x0015 _ (z .pre) e group15 in
-    (rw (w, e) (c .before .groups15 .ensures .0), rw (w, e) (c .before .groups15 .ensures .1))
+    let w = width-is 0x0015 _ (c .before .before .before .before .before .before .before .before .pre .0) e group15 in
+    (rw (w, e) (c .before .by-groups .ensures .0), rw (w, e) (c .before .by-groups .ensures .1))
 
 bytes-by-requires : tie.Need-bytes-by-requires
 bytes-by-requires c κs = search needs
@@ -71,29 +65,11 @@ same-length-5 : tie.Need-same-length-5
 same-length-5 c = search needs
 
 returns-5 : tie.Need-returns-5
-unfolding valueIn perGroup pick
+unfolding valueIn wordsOf pick
 returns-5 c =
-    let z = c .before .before .before .before .before .before .before .before .before in
-    let w = z .pre .only (c .before .before .before .before .before .before .if1 .left) (c .before .before .before .before .before .if2 .left) (c .before .before .before .before .if3 .left) (c .before .before .before .if4 .left) in
-    let t = table-is (z .args .code) (z .args .w) (now (z .args .table)) (z .pre) w in
-    (rw (w, ← t) (c .before .bytes-by .ensures .0), rw (w, ← t) (c .before .bytes-by .ensures .1))
+    let z = c .before .before .before .before .before .before .before .before in
+    let n = narrow (z .args .code) (z .args .w) (z .pre .0) (z .pre .1) (z .pre .2) (c .before .before .before .before .before .before .if1 .left) (c .before .before .before .before .before .if2 .left) (c .before .before .before .before .if3 .left) (c .before .before .before .if4 .left) in
+    (rw (n .width, ← n .value) (c .before .bytes-by .ensures .0), rw (n .width, ← n .value) (c .before .bytes-by .ensures .1))
 
 pub by-code-spec : {M : Type 1} → statement M
-by-code-spec =
-    tie.close
-    (tie.spec
-    words24-requires
-    same-length
-    returns
-    words44-requires
-    same-length-2
-    returns-2
-    words48-requires
-    same-length-3
-    returns-3
-    groups15-requires
-    same-length-4
-    returns-4
-    bytes-by-requires
-    same-length-5
-    returns-5)
+by-code-spec = tie.close (tie.spec words24-requires same-length returns words44-requires same-length-2 returns-2 words48-requires same-length-3 returns-3 by-groups-requires same-length-4 returns-4 bytes-by-requires same-length-5 returns-5)

@@ -1,7 +1,7 @@
 -- `stream::bulk::ran_to` meets its contract.
 -- Assumes nothing.
-use native.Mathlib.Omega.{arith}
 use Rattle.stream.specs.Bulk.{ranTo, at}
+use Rattle.stream.proofs.Parts.{spread-even}
 use borrow.Author.Needs.{needs}
 use Rattle.stream.proofs.bulk.ran_to.Statement.{statement}
 use Rattle.stream.proofs.bulk.ran_to.Tie as tie
@@ -18,18 +18,15 @@ cast-t c = search needs
 add-t-2 : tie.Need-add-t-2
 add-t-2 c = search needs
 
-last-four-requires : tie.Need-last-four-requires
-last-four-requires c κs = search needs
+held-after-requires : tie.Need-held-after-requires
+held-after-requires c κs = search needs
 
 last-exponents-requires : tie.Need-last-exponents-requires
-last-exponents-requires c κs =
-    λ e. let z = c .before .before .before .before in let m = z .pre .0 .whole in let n = rw e at m in omega (arith, n, z .pre .0 .some)
+last-exponents-requires c κs = λ e f. let p = c .before .before .before .before .pre .0 in (p .0 .some, spread-even (p .0 .words) e)
 
 returns : tie.Need-returns
 unfolding ranTo at
-returns c = rw (c .last-exponents .ensures, c .before .last-four .ensures)
+returns c = rw (c .last-exponents .ensures, c .before .held-after .ensures)
 
 pub ran-to-spec : {M : Type 1} → statement M
-ran-to-spec =
-    tie.close
-    (tie.spec cast-k add-t cast-t add-t-2 last-four-requires last-exponents-requires returns)
+ran-to-spec = tie.close (tie.spec cast-k add-t cast-t add-t-2 held-after-requires last-exponents-requires returns)

@@ -1,37 +1,50 @@
 -- `stream::bulk::run` meets its contract.
 -- Assumes nothing.
-use mathlib.Core.Path.{_∙_}
+use mathlib.Core.Path.{sym, _∙_}
 use native.Mathlib.Omega.{arith}
 use denote.Ref.{now}
 use lib.ListN.{length}
+use Rattle.scan.proofs.Shapes.{shape-parts}
+use Rattle.stream.proofs.Parts.{spread-front}
 use Rattle.stream.proofs.Whole.{comes, ran-off, ran-samples, ran-chunk, filled-wrote}
-use Rattle.stream.proofs.Readers.{able-narrow}
+use Rattle.stream.proofs.Readers.{fit-width, width-some}
 use borrow.Author.Needs.{needs}
 use Rattle.stream.proofs.bulk.run.Statement.{statement}
 use Rattle.stream.proofs.bulk.run.Tie as tie
 
+rem-group-place : tie.Need-rem-group-place
+rem-group-place c = search needs
+
+group-place-requires : tie.Need-group-place-requires
+group-place-requires c κs =
+    let z = c .before .before in
+    (z .pre .0 .low, fit-width (z .args .s) (z .args .w) (z .pre .0 .fit) (z .pre .0 .group))
+
 by-code-requires : tie.Need-by-code-requires
-by-code-requires c κs = search needs
+by-code-requires c κs =
+    let z = c .before .before .before .before in
+    let a = z .pre .0 in
+    (a .group, shape-parts (z .args .s .shape) (a .fit .shape) .code, width-some (z .args .w) (fit-width (z .args .s) (z .args .w) (a .fit) (a .group)), rw (c .before .group-place .ensures) (spread-front (a .words)))
 
 ran-to-requires : tie.Need-ran-to-requires
 ran-to-requires c κs =
-    let z = c .before .before .before .before .before in
-    (z .pre .1 .0, ran-off (z .args .s) (z .args .w) (now (z .args .bytes)) (now (z .args .out)) _ (c .before .by-code .ensures .0))
+    let z = c .before .before .before .before .before .before in
+    ((z .pre .0, sym (c .before .before .before .group-place .ensures)), ran-off (z .args .s) (z .args .w) _ (now (z .args .bytes)) (now (z .args .out)) _ (c .before .by-code .ensures .0))
 
-mul-t10 : tie.Need-mul-t10
-mul-t10 c =
-    let z = c .before .before .before .before .before .before .before in
-    omega (arith, ran-samples (z .args .s) (z .args .w) (now (z .args .bytes)) (now (z .args .out)) _ (c .before .before .before .by-code .ensures .0), z .pre .1 .1, z .good)
+mul-t11 : tie.Need-mul-t11
+mul-t11 c =
+    let z = c .before .before .before .before .before .before .before .before in
+    omega (arith, ran-samples (z .args .s) (z .args .w) _ (now (z .args .bytes)) (now (z .args .out)) _ (c .before .before .before .by-code .ensures .0), z .pre .1, z .good)
 
 same-length : tie.Need-same-length
 same-length c = search needs
 
 returns : tie.Need-returns
 returns c =
-    let z = c .before .before .before .before .before .before .before in
-    let n = able-narrow (z .args .s) (z .args .w) _ (z .pre .1 .0) in
-    let k = comes (z .args .s) (z .args .w) (now (z .args .bytes)) (length (now (z .args .out))) (z .pre .1 .0) (λ i. omega (arith, c .before .before .before .before .before .shared-slice-known2 .given i)) (z .pre .1 .1) (n .0) (n .1) in
-    (ran-chunk (z .args .s) (z .args .w) (now (z .args .bytes)) (now (z .args .out)) _ (c .before .before .before .by-code .ensures .0) k _ (c .before .ran-to .ensures), c .before .before .before .by-code .ensures .1 ∙ filled-wrote (z .args .s) (z .args .w) (now (z .args .bytes)) (now (z .args .out)) k)
+    let z = c .before .before .before .before .before .before .before .before in
+    let a = z .pre .0 in
+    let k = comes (z .args .s) (z .args .w) _ (now (z .args .bytes)) (length (now (z .args .out))) a (sym (c .before .before .before .before .before .group-place .ensures)) (λ i. omega (arith, c .before .before .before .before .before .before .before .shared-slice-known .given i)) (z .pre .1) (fit-width (z .args .s) (z .args .w) (a .fit) (a .group)) in
+    (ran-chunk (z .args .s) (z .args .w) _ (now (z .args .bytes)) (now (z .args .out)) _ (c .before .before .before .by-code .ensures .0) k _ (c .before .ran-to .ensures), c .before .before .before .by-code .ensures .1 ∙ filled-wrote (z .args .s) (z .args .w) _ (now (z .args .bytes)) (now (z .args .out)) k)
 
 pub run-spec : {M : Type 1} → statement M
-run-spec = tie.close (tie.spec by-code-requires ran-to-requires mul-t10 same-length returns)
+run-spec = tie.close (tie.spec rem-group-place group-place-requires by-code-requires ran-to-requires mul-t11 same-length returns)

@@ -3,6 +3,7 @@
 use Rattle.scan.specs.Step.{step}
 use Rattle.basis.specs.Choice.{pick}
 use Rattle.basis.proofs.Rules.{tests}
+use Rattle.stream.proofs.Readers.{fit-width, width-some}
 use borrow.Author.Needs.{needs}
 use Rattle.stream.proofs.byte.step.Statement.{statement}
 use Rattle.stream.proofs.byte.step.Tie as tie
@@ -60,7 +61,7 @@ unfolding step pick
 returns-7 c = search (tests, c .time .ensures)
 
 word-requires : tie.Need-word-requires
-word-requires c κs = search needs
+word-requires c κs = search (needs, width-some, fit-width)
 
 returns-8 : tie.Need-returns-8
 unfolding step pick

@@ -1,12 +1,9 @@
 -- `stream::feed::feed` meets its contract.
 -- Assumes nothing.
 use Prim.Native.Nat.{ℕ, _-_}
-use mathlib.Core.Path.{_≡_, ap, sym, _∙_, subst}
+use mathlib.Core.Path.{_≡_, ap, sym, subst}
 use Rattle.codes.specs.Codes.{groupOf}
 use Rattle.stream.specs.Starts.{Takes}
-use Rattle.scan.proofs.Shapes.{shape-parts}
-use Rattle.stream.proofs.Readers.{read-group}
-use Rattle.stream.proofs.Choose.{ready}
 use native.Mathlib.Omega.{arith}
 use denote.Ref.{now}
 use lib.ListN.{length}
@@ -19,25 +16,25 @@ use Rattle.stream.proofs.feed.feed.Statement.{statement}
 use Rattle.stream.proofs.feed.feed.Tie as tie
 
 abbrev Inv-loop : tie.InvT-loop
-Inv-loop row table bytes out₀ w t₀ n₀ i₀ out t n i = Going bytes out₀ t₀ out t n i
+Inv-loop bytes out₀ w t₀ n₀ i₀ out t n i = Going bytes out₀ t₀ out t n i
 
 abbrev μ-loop : tie.MeasureT-loop
-μ-loop row table bytes out₀ w t₀ n₀ i₀ out t n i = length bytes - i
+μ-loop bytes out₀ w t₀ n₀ i₀ out t n i = length bytes - i
 
-group-in-requires : tie.Need-group-in-requires Inv-loop μ-loop
-group-in-requires c κs =
+group-requires : tie.Need-group-requires Inv-loop μ-loop
+group-requires c κs =
     tt
 
 loop-holds : tie.Need-loop-holds Inv-loop μ-loop
 loop-holds c =
-    let z = c .before .before .before in
-    going-start (now (z .args .bytes)) (now (z .args .out)) (z .args .s) (z .pre .1 .0)
+    let z = c .before .before in
+    going-start (now (z .args .bytes)) (now (z .args .out)) (z .args .s) (z .pre .0)
 
 ahead-at-requires : tie.Need-ahead-at-requires Inv-loop μ-loop
 ahead-at-requires c κs =
     let a = c .before in
     let g = a .before in
-    (a .loop .inv .fit, rw (a .loop .inv .shape) (read-group (g .before .before .before .pre .0) ∙ sym (g .group-in .ensures)), a .loop .inv .in-bytes)
+    (a .loop .inv .fit, rw (a .loop .inv .shape) (sym (g .group .ensures)), a .loop .inv .in-bytes)
 
 shared-slice-read-step : tie.Need-shared-slice-read-step Inv-loop μ-loop
 shared-slice-read-step c =
@@ -46,25 +43,25 @@ shared-slice-read-step c =
 step-requires : tie.Need-step-requires Inv-loop μ-loop
 step-requires c κs =
     let a = c .before .before .before .before in
-    (rw (a .loop .inv .shape) (a .before .before .before .before .pre .0), a .loop .inv .fit)
+    (a .loop .inv .fit, rw (a .loop .inv .shape) (sym (a .before .group .ensures)))
 
 add-i : tie.Need-add-i Inv-loop μ-loop
 add-i c =
-    omega (arith, c .before .before .before .before .before .loop-test .taken, c .before .before .before .before .before .before .before .before .before .before .good)
+    omega (arith, c .before .before .before .before .before .loop-test .taken, c .before .before .before .before .before .before .before .before .before .good)
 
 put-requires : tie.Need-put-requires Inv-loop μ-loop
 put-requires c κs =
     let a = c .before .before .before .before .before .before .before .before .before in
     let b = a .loop in
-    let z = a .before .before .before .before in
-    omega (arith, b .inv, z .pre .1 .1, c .before .before .before .before .before .before .before .before .loop-test .taken)
+    let z = a .before .before .before in
+    omega (arith, b .inv, z .pre .1, c .before .before .before .before .before .before .before .before .loop-test .taken)
 
 add-n : tie.Need-add-n Inv-loop μ-loop
 add-n c =
     let a = c .before .before .before .before .before .before .before .before .before .before .before in
     let b = a .loop in
-    let z = a .before .before .before .before in
-    omega (arith, b .inv, z .pre .1 .1, z .good, c .before .before .before .before .before .before .before .before .before .before .loop-test .taken)
+    let z = a .before .before .before in
+    omega (arith, b .inv, z .pre .1, z .good, c .before .before .before .before .before .before .before .before .before .before .loop-test .taken)
 
 loop-less : tie.Need-loop-less Inv-loop μ-loop
 loop-less c =
@@ -74,8 +71,8 @@ loop-again : tie.Need-loop-again Inv-loop μ-loop
 loop-again c =
     let a = c .before .before .before .before .before .before .before .before .before .before .before in
     let b = a .loop in
-    let z = a .before .before .before .before in
-    rw (c .before .put .ensures) (going-wrote (now (z .args .bytes)) (now (z .args .out)) (z .args .s) (b .out) (b .t) (b .n) (b .i) (c .before .before .before .before .before .before .step .result) (b .inv) (z .pre .1 .1) (c .before .before .before .before .before .before .before .before .before .before .loop-test .taken) (c .before .before .before .before .before .before .step .ensures) (c .before .before .before .before .if2 .taken))
+    let z = a .before .before .before in
+    rw (c .before .put .ensures) (going-wrote (now (z .args .bytes)) (now (z .args .out)) (z .args .s) (b .out) (b .t) (b .n) (b .i) (c .before .before .before .before .before .before .step .result) (b .inv) (z .pre .1) (c .before .before .before .before .before .before .before .before .before .before .loop-test .taken) (c .before .before .before .before .before .before .step .ensures) (c .before .before .before .before .if2 .taken))
 
 loop-less-2 : tie.Need-loop-less-2 Inv-loop μ-loop
 loop-less-2 c =
@@ -85,7 +82,7 @@ loop-again-2 : tie.Need-loop-again-2 Inv-loop μ-loop
 loop-again-2 c =
     let a = c .before .before .before .before .before .before .before in
     let b = a .loop in
-    let z = a .before .before .before .before in
+    let z = a .before .before .before in
     going-quiet (now (z .args .bytes)) (now (z .args .out)) (z .args .s) (b .out) (b .t) (b .n) (b .i) (c .before .before .step .result) (b .inv) (c .before .before .before .before .before .before .loop-test .taken) (c .before .before .step .ensures) (c .if2 .left)
 
 take-at-requires : tie.Need-take-at-requires Inv-loop μ-loop
@@ -93,35 +90,34 @@ take-at-requires c κs =
     let a = c .before .before .before .before in
     let b = a .loop in
     let g = a .before in
-    let z = g .before .before .before in
+    let z = g .before .before in
     let h = c .before .before .ahead-at .ensures in
     let e = c .before .if1 .left in
-    let w : groupOf (b .t .shape .code) ≡ g .group-in .result = rw (b .inv .shape) (read-group (z .pre .0) ∙ sym (g .group-in .ensures)) in
-    let d = ready (z .args .s .shape .code) (z .args .row) (now (z .args .table)) (z .pre .0) (shape-parts (z .args .s .shape) (z .pre .1 .0 .shape) .code) in
-    (rw (b .inv .shape, g .group-in .ensures) d, ((b .inv .fit, subst (λ (x : ℕ). Takes (b .t) x (now (z .args .bytes)) (b .i) (c .before .before .ahead-at .result)) w (h .takes (omega arith))), omega (arith, h .within, b .inv, z .pre .1 .1, c .before .before .before .loop-test .taken)))
+    let w : groupOf (b .t .shape .code) ≡ g .group .result = rw (b .inv .shape) (sym (g .group .ensures)) in
+    ((b .inv .fit, subst (λ (x : ℕ). Takes (b .t) x (now (z .args .bytes)) (b .i) (c .before .before .ahead-at .result)) w (h .takes (omega arith))), omega (arith, h .within, b .inv, z .pre .1, c .before .before .before .loop-test .taken))
 
 add-i-2 : tie.Need-add-i-2 Inv-loop μ-loop
 add-i-2 c =
     let a = c .before .before .before .before .before .before .before in
     let b = a .loop in
-    let z = a .before .before .before .before in
+    let z = a .before .before .before in
     omega (arith, c .before .before .before .before .before .ahead-at .ensures .within, b .inv .in-bytes, z .good)
 
 add-n-2 : tie.Need-add-n-2 Inv-loop μ-loop
 add-n-2 c =
     let a = c .before .before .before .before .before .before .before .before in
     let b = a .loop in
-    let z = a .before .before .before .before in
+    let z = a .before .before .before in
     let h = c .before .before .before .before .before .before .ahead-at .ensures in
     let r = c .before .before .before .take-at .ensures .0 in
     let l = chunk-length (b .t) (now (z .args .bytes)) (b .i) (c .before .before .before .before .before .before .ahead-at .result) (c .before .before .before .take-at .result) r in
-    omega (arith, l, h .within, b .inv, z .pre .1 .1, z .good, c .before .before .before .before .before .before .before .loop-test .taken)
+    omega (arith, l, h .within, b .inv, z .pre .1, z .good, c .before .before .before .before .before .before .before .loop-test .taken)
 
 loop-less-3 : tie.Need-loop-less-3 Inv-loop μ-loop
 loop-less-3 c =
     let a = c .before .before .before .before .before .before .before .before in
     let b = a .loop in
-    let z = a .before .before .before .before in
+    let z = a .before .before .before in
     let h = c .before .before .before .before .before .before .ahead-at .ensures .within in
     let e = c .before .before .before .before .before .if1 .left in
     omega (arith, h, e, c .before .before .before .before .before .before .before .loop-test .taken)
@@ -131,10 +127,10 @@ unfolding chunk chunkOut
 loop-again-3 c =
     let a = c .before .before .before .before .before .before .before .before in
     let b = a .loop in
-    let z = a .before .before .before .before in
+    let z = a .before .before .before in
     let h = c .before .before .before .before .before .before .ahead-at .ensures in
     let r = c .before .before .before .take-at .ensures in
-    going-chunk (now (z .args .bytes)) (now (z .args .out)) (z .args .s) (b .out) (b .t) (b .n) (b .i) _ (b .inv) (z .pre .1 .1) (omega (arith, h .within, c .before .before .before .before .before .before .before .loop-test .taken)) _ _ _ (ap (λ (x : Chunk). x .state) (r .0)) (ap (λ (x : Chunk). x .wrote) (r .0)) (r .1)
+    going-chunk (now (z .args .bytes)) (now (z .args .out)) (z .args .s) (b .out) (b .t) (b .n) (b .i) _ (b .inv) (z .pre .1) (omega (arith, h .within, c .before .before .before .before .before .before .before .loop-test .taken)) _ _ _ (ap (λ (x : Chunk). x .state) (r .0)) (ap (λ (x : Chunk). x .wrote) (r .0)) (r .1)
 
 answered-requires : tie.Need-answered-requires Inv-loop μ-loop
 answered-requires c κs =
@@ -149,8 +145,8 @@ unfolding fed
 returns c =
     let a = c .before .before in
     let b = a .loop in
-    let z = a .before .before .before .before in
-    let g = going-end (now (z .args .bytes)) (now (z .args .out)) (z .args .s) (b .out) (b .t) (b .n) (b .i) (b .inv) (z .pre .1 .1) (c .before .loop-test .left) in
+    let z = a .before .before .before in
+    let g = going-end (now (z .args .bytes)) (now (z .args .out)) (z .args .s) (b .out) (b .t) (b .n) (b .i) (b .inv) (z .pre .1) (c .before .loop-test .left) in
     (rw (c .answered .ensures, g .state, g .count), g .list)
 
 pub feed-spec : {M : Type 1} → statement M
@@ -159,7 +155,7 @@ feed-spec =
     (tie.spec
     Inv-loop
     μ-loop
-    group-in-requires
+    group-requires
     loop-holds
     ahead-at-requires
     shared-slice-read-step

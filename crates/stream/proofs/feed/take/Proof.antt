@@ -22,7 +22,7 @@ unfolding taken kept unchanged over pick
 returns-2 c = search (tests, room-short _ _ (c .if2 .taken), c .before .if1 .left)
 
 feed-requires : tie.Need-feed-requires
-feed-requires c κs = let z = c .before .before .before .before .before .before in (z .pre .0, (z .pre .1, omega (arith, c .before .if2 .left)))
+feed-requires c κs = let z = c .before .before .before .before .before in (z .pre, omega (arith, c .before .if2 .left))
 
 same-length : tie.Need-same-length
 same-length c = search needs

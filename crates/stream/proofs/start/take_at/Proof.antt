@@ -11,16 +11,16 @@ rem-if1 : tie.Need-rem-if1
 rem-if1 c = search needs
 
 started-requires : tie.Need-started-requires
-started-requires c κs = c .before .before .before .before .pre .1 .0 .1 .start (c .if1 .taken) .1
+started-requires c κs = c .before .before .before .pre .0 .1 .start (c .if1 .taken) .1
 
 returns : tie.Need-returns
 returns c =
-    let z = c .before .before .before .before .before in
-    let t = z .pre .1 .0 .1 .start (c .before .if1 .taken) in
-    (start-chunk (z .args .s) (now (z .args .bytes)) (z .args .i) (t .1) (λ j. omega (arith, c .before .before .before .shared-slice-known2 .given j)) (z .args .k) _ (t .0) (c .started .ensures), start-out (z .args .s) (now (z .args .bytes)) (z .args .i) (t .1) (λ j. omega (arith, c .before .before .before .shared-slice-known2 .given j)) (z .args .k) (z .args .n) _ (t .0))
+    let z = c .before .before .before .before in
+    let t = z .pre .0 .1 .start (c .before .if1 .taken) in
+    (start-chunk (z .args .s) (now (z .args .bytes)) (z .args .i) (t .1) (λ j. omega (arith, c .before .before .before .shared-slice-known .given j)) (z .args .k) _ (t .0) (c .started .ensures), start-out (z .args .s) (now (z .args .bytes)) (z .args .i) (t .1) (λ j. omega (arith, c .before .before .before .shared-slice-known .given j)) (z .args .k) (z .args .n) _ (t .0))
 
 run-at-requires : tie.Need-run-at-requires
-run-at-requires c κs = let z = c .before .before .before .before .before in (z .pre .0, (z .pre .1 .0 .1 .words (c .before .if1 .left), z .pre .1 .1))
+run-at-requires c κs = let z = c .before .before .before .before in (z .pre .0 .1 .words (c .before .if1 .left), z .pre .1)
 
 same-length : tie.Need-same-length
 same-length c = search needs
