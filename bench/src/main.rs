@@ -2,6 +2,7 @@
 
 mod answers;
 mod check;
+mod handed;
 mod measure;
 mod ours;
 mod reader;
@@ -9,6 +10,8 @@ mod record;
 mod runs;
 mod words;
 
+use handed::Handed;
+use reader::Reader;
 use record::{tape_code, Plan, Record, CODES, NARROW, WIDE};
 use std::io::BufRead;
 
@@ -94,6 +97,28 @@ fn check() -> bool {
     failed == 0
 }
 
+/// Prints both readers' times in the shortest portions, with the state of Rust's handed in and out by value, as ours is.
+fn handed() {
+    println!("\nnanoseconds a byte in portions of 512 B: ours, Rust's with its state by value, and ours by that");
+    println!("| code | B | body | ours | Rust | |");
+    println!("|---|---|---|---|---|---|");
+    for plan in plans(LONG_BODY, BLOCK) {
+        let record = plan.record(1);
+        let form = if plan.block_bytes == 0 { "one block" } else { "gapped" };
+        let [ours, theirs] = measure::time(Handed(Reader::new(record.shape)), &record, PORTIONS[0]);
+        let (code, scan, ratio) = (tape_code(plan.code), plan.scan(), ours / theirs);
+        println!("| {code:04X} | {scan} | {form} | {ours:.2} | {theirs:.2} | {ratio:.2} |");
+    }
+}
+
+/// Prints both tables of times.
+fn time() {
+    table("nanoseconds", |record, portion| {
+        measure::time(Reader::new(record.shape), record, portion)
+    });
+    handed();
+}
+
 /// The counts on standard input, one to a line, in the order of `once`.
 fn counted() {
     let mut counts = std::io::stdin().lock().lines().map(|line| {
@@ -111,7 +136,7 @@ fn main() {
     let word = std::env::args().nth(1).unwrap_or_default();
     match word.as_str() {
         "check" => std::process::exit(if check() { 0 } else { 1 }),
-        "time" => drop(table("nanoseconds", measure::time)),
+        "time" => time(),
         "once" => {
             for plan in plans(LONG_BODY, BLOCK) {
                 let record = plan.record(1);
