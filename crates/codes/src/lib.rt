@@ -35,7 +35,7 @@ pub enum Found {
     Nothing,
 }
 
-// The rows of the multiplexed codes, by name: a reader of one code alone cites its row.
+// The rows of the multiplexed codes, by name: a reader of one code alone cites its row. Words of 0022 and 0042 are read from tables, so that nobody cites theirs.
 pub const ROW_15: Row = Row {
     code: 0x0015,
     width: 20,
@@ -47,7 +47,7 @@ pub const ROW_15: Row = Row {
     kind: Kind::OnesComplement,
 };
 
-pub const ROW_22: Row = Row {
+const ROW_22: Row = Row {
     code: 0x0022,
     width: 8,
     apart: 0,
@@ -69,7 +69,7 @@ pub const ROW_24: Row = Row {
     kind: Kind::OnesComplement,
 };
 
-pub const ROW_42: Row = Row {
+const ROW_42: Row = Row {
     code: 0x0042,
     width: 8,
     apart: 0,
