@@ -8,7 +8,7 @@ use Rattle.basis.specs.Fields.{field}
 use Rattle.codes.specs.Codes.{table, findIn, rowOf, perIn, perOf, bitsOf}
 use Rattle.values.specs.Values.{times, brought, lessTest, sameTest}
 use Rattle.values.proofs.Laws.{same-told}
-use Rattle.words.specs.Words.{fractionOf, powerOf, lastBit, negativeZero, allOnes, signedZero, notJustified, offRule, sampleIn, wordIn, wordOf}
+use Rattle.words.specs.Words.{signedFraction, powerOf, lastBit, negativeZero, allOnes, notTrueZero, notJustified, offRule, sampleIn, wordIn, wordOf}
 use Rattle.basis.specs.Upto.{upto}
 use Rattle.basis.specs.Digits.{written}
 use Rattle.block.specs.Bytes.{isPair, pairOf, packedOf, byte, upper, lower, pair, decimal, threeDigits, binary, pairs}
@@ -36,5 +36,5 @@ unfolding pick upto written isPair pairOf byte upper lower pair decimal threeDig
 past = rw (accepted .0)
 
 pub all-figures : All figures
-unfolding figures times brought lessTest sameTest pick field table findIn rowOf fractionOf powerOf lastBit negativeZero allOnes signedZero notJustified offRule sampleIn wordIn wordOf isPair pairOf packedOf quarters timeBy
+unfolding figures times brought lessTest sameTest pick field table findIn rowOf signedFraction powerOf lastBit negativeZero allOnes notTrueZero notJustified offRule sampleIn wordIn wordOf isPair pairOf packedOf quarters timeBy
 all-figures = (refl, (refl, (refl, (refl, (refl, (refl, (refl, (refl, (refl, (refl, (refl, (refl, (refl, (same-told tt, (refl, (refl, (refl, (refl, (refl, (accepted, (placed, (past, tt))))))))))))))))))))))

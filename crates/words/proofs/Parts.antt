@@ -16,14 +16,14 @@ use Rattle.codes.specs.declared.Found.the-variants.{At}
 use Rattle.codes.specs.Codes.{rowOf}
 use Rattle.words.specs.declared.Value.{Value}
 use Rattle.words.specs.declared.Word.the-variants.{Sample}
-use Rattle.words.specs.Words.{fractionOf, powerOf, offRule, sampleIn, wordIn, wordOf, valued, valueOf, signIn, fractionIn, lastIn, spareOf}
+use Rattle.words.specs.Words.{signedFraction, powerOf, offRule, sampleIn, wordIn, wordOf, valued, valueOf, signIn, fractionIn, lastIn, spareOf}
 
 pub from-parts : (r : Row) (c word : ℕ) {s e q last : ℕ} {m x : ℤ} {off : Bool}
     → s ≡ signIn r word
     → e ≡ field word (spareOf r + r .fraction) (r .exponent - r .apart)
     → q ≡ fractionIn r word
     → last ≡ lastIn r word
-    → m ≡ fractionOf (r .kind) (r .fraction) s q
+    → m ≡ signedFraction (r .kind) (r .fraction) s q
     → x ≡ powerOf (r .base) (r .bias) (r .fraction) (c + e)
     → off ≡ offRule (r .kind) (r .fraction) (r .exponent) last s (c + e) q
     → Sample m x off ≡ sampleIn r c word

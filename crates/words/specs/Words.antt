@@ -46,8 +46,8 @@ kept SignMagnitude n q = q
 kept Justified n q = q
 
 -- M: Q, or where the sign is set "minus the complemented Q" or minus Q
-unfoldable pub fractionOf : Kind → ℕ → ℕ → ℕ → ℤ
-fractionOf kind n s q = pick (eqb s 0) (pos q) (negℤ (pos (kept kind n q)))
+unfoldable pub signedFraction : Kind → ℕ → ℕ → ℕ → ℤ
+signedFraction kind n s q = pick (eqb s 0) (pos q) (negℤ (pos (kept kind n q)))
 
 -- X: as "4(c - 64) - 23", the exponent less its bias, in the base's powers of two, less n
 unfoldable pub powerOf : ℕ → ℕ → ℕ → ℕ → ℤ
@@ -66,8 +66,8 @@ unfoldable pub allOnes : ℕ → ℕ → ℕ → ℕ → ℕ → Bool
 allOnes n b s e q = eqb s 1 && (eqb e (2 ^ b - 1) && eqb q (2 ^ n - 1))
 
 -- "Q zero with sign or exponent not zero"
-unfoldable pub signedZero : ℕ → ℕ → ℕ → Bool
-signedZero s e q = eqb q 0 && ltb 0 (s + e)
+unfoldable pub notTrueZero : ℕ → ℕ → ℕ → Bool
+notTrueZero s e q = eqb q 0 && ltb 0 (s + e)
 
 -- "Q not zero with its first four bits zero"
 unfoldable pub notJustified : ℕ → ℕ → Bool
@@ -77,7 +77,7 @@ notJustified n q = ltb 0 q && eqb (field q (n - 4) 4) 0
 abbrev pub kindOff : Kind → ℕ → ℕ → ℕ → ℕ → ℕ → Bool
 kindOff OnesComplement n b s e q = negativeZero n s q
 kindOff SignMagnitude n b s e q = allOnes n b s e q
-kindOff Justified n b s e q = signedZero s e q || notJustified n q
+kindOff Justified n b s e q = notTrueZero s e q || notJustified n q
 
 -- "A word is off rule"
 unfoldable pub offRule : Kind → ℕ → ℕ → ℕ → ℕ → ℕ → ℕ → Bool
@@ -86,7 +86,7 @@ offRule kind n b last s e q = lastBit last || kindOff kind n b s e q
 -- "Each sample is (M, X)", with its off-rule mark: one definition over a row's columns
 unfoldable pub sampleIn : Row → ℕ → ℕ → Word
 sampleIn r c word =
-    Sample (fractionOf (r .kind) (r .fraction) (signIn r word) (fractionIn r word))
+    Sample (signedFraction (r .kind) (r .fraction) (signIn r word) (fractionIn r word))
     (powerOf (r .base) (r .bias) (r .fraction) (exponentIn r c word))
     (offRule (r .kind) (r .fraction) (r .exponent) (lastIn r word) (signIn r word) (exponentIn r c word) (fractionIn r word))
 

@@ -6,7 +6,7 @@ ghost use lib.Dec.{ltb};
 ghost use Rattle.basis.specs.Fields.{field};
 ghost use Rattle.codes.specs.Codes.{SoundRow, row};
 ghost use Rattle.codes.specs.declared.Kind.the-variants.{OnesComplement, SignMagnitude, Justified};
-ghost use Rattle.words.specs.Words.{fractionOf, powerOf, lastBit, negativeZero, allOnes, offRule, sampleIn, wordIn, wordOf, valued, valueOf};
+ghost use Rattle.words.specs.Words.{signedFraction, powerOf, lastBit, negativeZero, allOnes, offRule, sampleIn, wordIn, wordOf, valued, valueOf};
 use codes::Found;
 use codes::Kind;
 use codes::Row;
@@ -53,7 +53,7 @@ fn bits(word: u32, at: u32, size: u32) -> u32
 // what the mark of a negative zero wants too; elsewhere that way has LLVM take words by twos and not by fours.
 fn complemented(apart: u32, n: u32, s: u32, q: u32) -> i32
     requires { ⌜ (n < 31) × (s < 2) × (q < 2 ^ n) ⌝ }
-    ensures { λ r. ⌜ r ≡ fractionOf OnesComplement n s q ⌝ }
+    ensures { λ r. ⌜ r ≡ signedFraction OnesComplement n s q ⌝ }
 {
     if apart == 0 {
         basis::difference(q, s * ones(n))
@@ -65,7 +65,7 @@ fn complemented(apart: u32, n: u32, s: u32, q: u32) -> i32
 // M of a magnitude with a sign: Q less twice itself.
 fn doubled(n: u32, s: u32, q: u32) -> i32
     requires { ⌜ (n < 31) × (s < 2) × (q < 2 ^ n) ⌝ }
-    ensures { λ r. ⌜ r ≡ fractionOf SignMagnitude n s q ⌝ }
+    ensures { λ r. ⌜ r ≡ signedFraction SignMagnitude n s q ⌝ }
 {
     basis::difference(q, s * (q + q))
 }
@@ -73,7 +73,7 @@ fn doubled(n: u32, s: u32, q: u32) -> i32
 // The same of the widest fraction, as a choice: LLVM makes two instructions of it, and no branch.
 fn with_sign(n: u32, s: u32, q: u32) -> i32
     requires { ⌜ (n < 31) × (s < 2) × (q < 2 ^ n) ⌝ }
-    ensures { λ r. ⌜ r ≡ fractionOf Justified n s q ⌝ }
+    ensures { λ r. ⌜ r ≡ signedFraction Justified n s q ⌝ }
 {
     if s == 0 {
         basis::difference(q, 0)
@@ -83,9 +83,9 @@ fn with_sign(n: u32, s: u32, q: u32) -> i32
 }
 
 // M, by how the fraction is kept. No way leaves a branch on a sample's sign, which would be predicted badly.
-fn fraction(kind: Kind, apart: u32, n: u32, s: u32, q: u32) -> i32
+fn signed_fraction(kind: Kind, apart: u32, n: u32, s: u32, q: u32) -> i32
     requires { ⌜ (n < 31) × (s < 2) × (q < 2 ^ n) ⌝ }
-    ensures { λ r. ⌜ r ≡ fractionOf kind n s q ⌝ }
+    ensures { λ r. ⌜ r ≡ signedFraction kind n s q ⌝ }
 {
     match kind {
         Kind::OnesComplement => complemented(apart, n, s, q),
@@ -128,7 +128,7 @@ fn all_ones(n: u32, b: u32, s: u32, e: u32, q: u32) -> bool
 }
 
 // Every way in which a justified fraction is off rule: the word is not zero, and a bit below Q is set or the first four bits of Q are zero.
-fn unjustified(n: u32, some: bool, last: u32, q: u32) -> bool
+fn justified_off(n: u32, some: bool, last: u32, q: u32) -> bool
     requires { ⌜ (4 ≤ n) × (n < 31) ⌝ }
     ensures { λ r. ⌜ r ≡ (some && (lastBit last || ltb q (2 ^ (n - 4)))) ⌝ }
 {
@@ -143,7 +143,7 @@ fn off_rule(kind: Kind, n: u32, b: u32, some: bool, last: u32, s: u32, e: u32, q
     match kind {
         Kind::OnesComplement => last_bit(last) | negative_zero(n, s, q),
         Kind::SignMagnitude => last_bit(last) | all_ones(n, b, s, e, q),
-        Kind::Justified => unjustified(n, some, last, q),
+        Kind::Justified => justified_off(n, some, last, q),
     }
 }
 
@@ -167,7 +167,7 @@ fn sample(
     let s = bits(word, width - apart - 1, 1);
     let e = c + bits(word, spare + n, b - apart);
     let q = bits(word, spare, n);
-    let m = fraction(kind, apart, n, s, q);
+    let m = signed_fraction(kind, apart, n, s, q);
     let x = power(base, bias, n, e);
     let some = (0 < c) | (0 < word);
     let off = off_rule(kind, n, b, some, bits(word, 0, spare), s, e, q);
@@ -224,7 +224,7 @@ pub fn read_word(code: u16, c: u32, word: u32) -> Word
 }
 
 // A sample's numbers; 0 x 2^0, not off rule, where the word is refused.
-fn worth(w: Word) -> Value
+fn as_value(w: Word) -> Value
     ensures { λ r. ⌜ r ≡ valued w ⌝ }
 {
     match w {
@@ -241,7 +241,7 @@ fn worth(w: Word) -> Value
 pub fn read(code: u16, c: u32, word: u32) -> Value
     ensures { λ r. ⌜ r ≡ valueOf code c word ⌝ }
 {
-    worth(read_word(code, c, word))
+    as_value(read_word(code, c, word))
 }
 
 // A word of 0015, with the exponent in the lowest four bits of c.
@@ -250,7 +250,7 @@ pub fn value15(c: u32, word: u16) -> Value
 {
     let r = codes::ROW_15;
     let kind = r.kind;
-    worth(sample(
+    as_value(sample(
         kind,
         r.width,
         r.apart,
@@ -269,7 +269,7 @@ pub fn value24(word: u16) -> Value
 {
     let r = codes::ROW_24;
     let kind = r.kind;
-    worth(sample(
+    as_value(sample(
         kind,
         r.width,
         r.apart,
@@ -288,7 +288,7 @@ pub fn value44(word: u16) -> Value
 {
     let r = codes::ROW_44;
     let kind = r.kind;
-    worth(sample(
+    as_value(sample(
         kind,
         r.width,
         r.apart,
@@ -307,7 +307,7 @@ pub fn value48(word: u32) -> Value
 {
     let r = codes::ROW_48;
     let kind = r.kind;
-    worth(sample(
+    as_value(sample(
         kind,
         r.width,
         r.apart,

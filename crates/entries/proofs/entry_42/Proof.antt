@@ -4,14 +4,14 @@ use mathlib.Core.Path.{refl}
 use Rattle.basis.specs.Choice.{pick}
 use Rattle.basis.specs.Fields.{field}
 use Rattle.codes.specs.Codes.{table, findIn, rowOf}
-use Rattle.words.specs.Words.{fractionOf, powerOf, lastBit, allOnes, offRule, sampleIn, wordIn, wordOf}
+use Rattle.words.specs.Words.{signedFraction, powerOf, lastBit, allOnes, offRule, sampleIn, wordIn, wordOf}
 use Rattle.entries.specs.Entries.{signedOf, onesOf, offByte, entryOf}
 use Rattle.entries.proofs.At.{at, missed}
 use Rattle.entries.proofs.entry_42.Statement.{statement}
 use Rattle.entries.proofs.entry_42.Tie as tie
 
 pub entry-42-spec : {M : Type 1} → statement M
-unfolding rowOf findIn table pick field fractionOf powerOf lastBit allOnes offRule sampleIn wordIn wordOf signedOf onesOf offByte entryOf
+unfolding rowOf findIn table pick field signedFraction powerOf lastBit allOnes offRule sampleIn wordIn wordOf signedOf onesOf offByte entryOf
 entry-42-spec =
     tie.close
     (tie.spec

@@ -1,10 +1,10 @@
--- `words::worth` meets its contract.
+-- `words::as_value` meets its contract.
 -- Assumes nothing.
 use mir.Syntax.{w32}
 use mir.Facts.{toZ-ofZ}
 use borrow.Author.Needs.{needs}
-use Rattle.words.proofs.worth.Statement.{statement}
-use Rattle.words.proofs.worth.Tie as tie
+use Rattle.words.proofs.as_value.Statement.{statement}
+use Rattle.words.proofs.as_value.Tie as tie
 
 enum-known-w : tie.Need-enum-known-w
 enum-known-w c = search needs
@@ -18,5 +18,5 @@ returns c = let g = c .known-told .given in let v = c .before .w .given .0 in rw
 returns-2 : tie.Need-returns-2
 returns-2 c = rw (c .enum-told .given .1)
 
-pub worth-spec : {M : Type 1} → statement M
-worth-spec = tie.close (tie.spec enum-known-w enum-told returns returns-2)
+pub as-value-spec : {M : Type 1} → statement M
+as-value-spec = tie.close (tie.spec enum-known-w enum-told returns returns-2)

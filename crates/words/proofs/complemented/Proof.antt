@@ -5,7 +5,7 @@ use mathlib.Core.Path.{_∙_}
 use native.Mathlib.Omega.{arith}
 use lib.Pow.{pow-mono}
 use Rattle.basis.proofs.Numbers.{difference-is}
-use Rattle.words.specs.Words.{fractionOf}
+use Rattle.words.specs.Words.{signedFraction}
 use Rattle.words.proofs.Signs.{by-ones, by-complement, below}
 use borrow.Author.Needs.{needs}
 use Rattle.words.proofs.complemented.Statement.{statement}
@@ -47,7 +47,7 @@ difference-requires-2 : tie.Need-difference-requires-2
 difference-requires-2 c κs = search needs
 
 returns : tie.Need-returns
-unfolding fractionOf
+unfolding signedFraction
 returns c =
     let a = c .before .before .before .args in
     let f = c .before .before .before .pre in
@@ -56,7 +56,7 @@ returns c =
     )
 
 returns-2 : tie.Need-returns-2
-unfolding fractionOf
+unfolding signedFraction
 returns-2 c =
     let a = c .before .before .before .args in
     let f = c .before .before .before .pre in

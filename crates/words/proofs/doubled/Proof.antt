@@ -4,7 +4,7 @@ use Prim.Native.Nat.{ℕ, _+_, _<_, _^_}
 use mathlib.Core.Path.{_∙_}
 use native.Mathlib.Omega.{arith}
 use Rattle.basis.proofs.Numbers.{below-pow, difference-is}
-use Rattle.words.specs.Words.{fractionOf}
+use Rattle.words.specs.Words.{signedFraction}
 use Rattle.words.proofs.Signs.{by-double, below}
 use borrow.Author.Needs.{needs}
 use Rattle.words.proofs.doubled.Statement.{statement}
@@ -23,7 +23,7 @@ difference-requires : tie.Need-difference-requires
 difference-requires c κs = search needs
 
 returns : tie.Need-returns
-unfolding fractionOf
+unfolding signedFraction
 returns c =
     let a = c .before .args in
     let f = c .before .pre in

@@ -1,8 +1,8 @@
--- `words::unjustified` meets its contract.
+-- `words::justified_off` meets its contract.
 -- Assumes nothing.
 use borrow.Author.Needs.{needs}
-use Rattle.words.proofs.unjustified.Statement.{statement}
-use Rattle.words.proofs.unjustified.Tie as tie
+use Rattle.words.proofs.justified_off.Statement.{statement}
+use Rattle.words.proofs.justified_off.Tie as tie
 
 last-bit-requires : tie.Need-last-bit-requires
 last-bit-requires c κs = search needs
@@ -16,5 +16,5 @@ two-to-requires c κs = search needs
 returns : tie.Need-returns
 returns c = rw (c .before .last-bit .ensures, c .two-to .ensures)
 
-pub unjustified-spec : {M : Type 1} → statement M
-unjustified-spec = tie.close (tie.spec last-bit-requires sub-two-to two-to-requires returns)
+pub justified-off-spec : {M : Type 1} → statement M
+justified-off-spec = tie.close (tie.spec last-bit-requires sub-two-to two-to-requires returns)

@@ -9,7 +9,7 @@ use lib.Dec.{eqb, ltb}
 use lib.Pow.{pow-pos, shr-lt}
 use borrow.Author.Tests.{lt-ltb, eq-eqb, ne-eqb, ltb-true, ltb-false}
 use Rattle.basis.specs.Fields.{field}
-use Rattle.words.specs.Words.{lastBit, signedZero, notJustified, offRule}
+use Rattle.words.specs.Words.{lastBit, notTrueZero, notJustified, offRule}
 use borrow.Author.Needs.{needs}
 use Rattle.words.proofs.off_rule.Statement.{statement}
 use Rattle.words.proofs.off_rule.Tie as tie
@@ -41,8 +41,8 @@ first-four n q l h =
 
 -- a bit below Q makes the word not zero, and is a fault by itself
 all-faults : (n last s e q : ℕ) (some : Bool) → 4 ≤ n → q < 2 ^ n → some ≡ ltb 0 (last + (s + e + q))
-    → (some && (lastBit last || ltb q (2 ^ (n - 4)))) ≡ (lastBit last || (signedZero s e q || notJustified n q))
-unfolding lastBit signedZero notJustified
+    → (some && (lastBit last || ltb q (2 ^ (n - 4)))) ≡ (lastBit last || (notTrueZero s e q || notJustified n q))
+unfolding lastBit notTrueZero notJustified
 all-faults n zero s e q some l h t =
     rw (t, zero-add (s + e + q), ← first-four n q l h) (both (2 ^ (n - 4)) (pow-pos (n - 4)) (s + e) q)
 all-faults n (suc last) s e q some l h t = rw (t, lt-ltb 0 (suc last) (omega arith), lt-ltb 0 (suc last + (s + e + q)) (omega arith))
@@ -68,8 +68,8 @@ all-ones-requires c κs = search needs
 enum-told-3 : tie.Need-enum-told-3
 enum-told-3 c = search needs
 
-unjustified-requires : tie.Need-unjustified-requires
-unjustified-requires c κs = search needs
+justified-off-requires : tie.Need-justified-off-requires
+justified-off-requires c κs = search needs
 
 returns : tie.Need-returns
 unfolding offRule
@@ -84,7 +84,7 @@ unfolding offRule
 returns-3 c =
     let a = c .before .before .before .args in
     let f = c .before .before .before .pre in
-    rw (c .before .enum-told3 .given .1) (c .unjustified .ensures ∙ all-faults (a .n) (a .last) (a .s) (a .e) (a .q) (a .some) (f .0) (f .5) (f .6))
+    rw (c .before .enum-told3 .given .1) (c .justified-off .ensures ∙ all-faults (a .n) (a .last) (a .s) (a .e) (a .q) (a .some) (f .0) (f .5) (f .6))
 
 pub off-rule-spec : {M : Type 1} → statement M
 off-rule-spec =
@@ -97,7 +97,7 @@ off-rule-spec =
     last-bit-requires-2
     all-ones-requires
     enum-told-3
-    unjustified-requires
+    justified-off-requires
     returns
     returns-2
     returns-3)

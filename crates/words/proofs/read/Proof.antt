@@ -9,12 +9,12 @@ use Rattle.words.proofs.read.Tie as tie
 read-word-requires : tie.Need-read-word-requires
 read-word-requires c κs = search needs
 
-worth-requires : tie.Need-worth-requires
-worth-requires c κs = search needs
+as-value-requires : tie.Need-as-value-requires
+as-value-requires c κs = search needs
 
 returns : tie.Need-returns
 unfolding valueOf
-returns c = search (tests, c .worth .ensures, c .before .read-word .ensures)
+returns c = search (tests, c .as-value .ensures, c .before .read-word .ensures)
 
 pub read-spec : {M : Type 1} → statement M
-read-spec = tie.close (tie.spec read-word-requires worth-requires returns)
+read-spec = tie.close (tie.spec read-word-requires as-value-requires returns)

@@ -52,8 +52,8 @@ add-e c =
 bits-requires-3 : tie.Need-bits-requires-3
 bits-requires-3 c κs = search needs
 
-fraction-requires : tie.Need-fraction-requires
-fraction-requires c κs =
+signed-fraction-requires : tie.Need-signed-fraction-requires
+signed-fraction-requires c κs =
     let s : c .before .before .bits .result < 2 ^ 1 = rw (c .before .before .bits .ensures) (field-below _ _ _ 1 (omega arith)) in
     (omega arith, omega arith, rw (c .bits3 .ensures) (field-below _ _ _ _ (search needs)))
 
@@ -90,7 +90,7 @@ returns c =
     let a = d .before .before .before .args in
     from-parts (row 0 (a .width) (a .apart) (a .n) (a .base) (a .b) (a .bias) (a .kind)) (a .c) (a .word)
     (d .before .before .bits .ensures) (d .before .bits2 .ensures) (d .bits3 .ensures) (c .before .bits4 .ensures)
-    (search needs ∙ c .before .before .before .fraction .ensures) (search needs ∙ c .before .before .power .ensures) (c .off-rule .ensures)
+    (search needs ∙ c .before .before .before .signed-fraction .ensures) (search needs ∙ c .before .before .power .ensures) (c .off-rule .ensures)
 
 pub sample-spec : {M : Type 1} → statement M
 sample-spec =
@@ -107,7 +107,7 @@ sample-spec =
     bits-requires-2
     add-e
     bits-requires-3
-    fraction-requires
+    signed-fraction-requires
     power-requires
     bits-requires-4
     off-rule-requires

@@ -1,9 +1,9 @@
--- `words::fraction` meets its contract.
+-- `words::signed_fraction` meets its contract.
 -- Assumes nothing.
 use mathlib.Core.Path.{_∙_}
 use borrow.Author.Needs.{needs}
-use Rattle.words.proofs.fraction.Statement.{statement}
-use Rattle.words.proofs.fraction.Tie as tie
+use Rattle.words.proofs.signed_fraction.Statement.{statement}
+use Rattle.words.proofs.signed_fraction.Tie as tie
 
 enum-told : tie.Need-enum-told
 enum-told c = search needs
@@ -32,8 +32,8 @@ returns-2 c = rw (c .before .enum-told2 .given .1) (search needs ∙ c .doubled 
 returns-3 : tie.Need-returns-3
 returns-3 c = rw (c .before .enum-told3 .given .1) (search needs ∙ c .with-sign .ensures)
 
-pub fraction-spec : {M : Type 1} → statement M
-fraction-spec =
+pub signed-fraction-spec : {M : Type 1} → statement M
+signed-fraction-spec =
     tie.close
     (tie.spec
     enum-told

@@ -16,12 +16,12 @@ use Rattle.words.proofs.value15.Tie as tie
 sample-requires : tie.Need-sample-requires
 sample-requires c κs = search needs
 
-worth-requires : tie.Need-worth-requires
-worth-requires c κs = search needs
+as-value-requires : tie.Need-as-value-requires
+as-value-requires c κs = search needs
 
 returns : tie.Need-returns
 unfolding rowOf findIn table pick sampleIn
-returns c = value-of 0x0015 _ refl (c .before .before .args .c % 16) _ (lit< tt) (mod-lt (c .before .before .args .c) (pow-pos 4)) (search needs) (c .worth .ensures ∙ ap valued (c .before .sample .ensures))
+returns c = value-of 0x0015 _ refl (c .before .before .args .c % 16) _ (lit< tt) (mod-lt (c .before .before .args .c) (pow-pos 4)) (search needs) (c .as-value .ensures ∙ ap valued (c .before .sample .ensures))
 
 pub value15-spec : {M : Type 1} → statement M
-value15-spec = tie.close (tie.spec sample-requires worth-requires returns)
+value15-spec = tie.close (tie.spec sample-requires as-value-requires returns)

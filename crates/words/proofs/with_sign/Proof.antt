@@ -6,7 +6,7 @@ use lib.Dec.{lit<}
 use borrow.Author.Tests.{eq-eqb, ne-eqb}
 use Rattle.basis.specs.Choice.{pick}
 use Rattle.basis.proofs.Numbers.{below-pow, difference-is, minus-zero, zero-minus}
-use Rattle.words.specs.Words.{fractionOf}
+use Rattle.words.specs.Words.{signedFraction}
 use borrow.Author.Needs.{needs}
 use Rattle.words.proofs.with_sign.Statement.{statement}
 use Rattle.words.proofs.with_sign.Tie as tie
@@ -18,14 +18,14 @@ difference-requires-2 : tie.Need-difference-requires-2
 difference-requires-2 c κs = search needs
 
 returns : tie.Need-returns
-unfolding fractionOf pick
+unfolding signedFraction pick
 returns c =
     let a = c .before .before .args in
     let f = c .before .before .pre in
     rw (eq-eqb (a .s) 0 (c .before .if1 .taken)) (search needs ∙ c .difference .ensures ∙ difference-is {b = 0} (below-pow (a .n) 31 (f .2) (omega arith)) (lit< tt) ∙ minus-zero (a .q))
 
 returns-2 : tie.Need-returns-2
-unfolding fractionOf pick
+unfolding signedFraction pick
 returns-2 c =
     let a = c .before .before .args in
     let f = c .before .before .pre in
