@@ -5,7 +5,7 @@ use mathlib.Core.Path.{_≡_, refl, sym, ap, ap₂, _∙_}
 use mathlib.Core.Bool.{Bool, true, false, not}
 use mathlib.Core.List.{List, [], _++_, append-nil}
 use mathlib.Core.Logic.{inl, inr}
-use native.Mathlib.Nat.{div-add-mod', mod-lt, add-zero, div-one, mul-le-mul-right, mod-mod, zero-div}
+use native.Mathlib.Nat.{div-add-mod', mod-lt, div-one, mul-le-mul-right, mod-mod, zero-div}
 use native.Mathlib.Omega.{arith}
 use native.Mathlib.Numerals.{add-one}
 use lib.Arith.{digits-mod, digits-lt}
@@ -204,20 +204,12 @@ module _ (byte : ℕ → ℕ) (k : Plan) (pos : 0 < width k) (some : 0 < per k) 
           in-scan (not-full byte k i s p (inv .begun) (λ x. omega arith))
           ∙ rw (lt-leb (r + 1) 3 (omega arith), ne-eqb (r + 1) 4 (λ x. omega arith), ne-eqb (r + 1) 8 (λ x. omega arith))
 
-      off-one : (w : Value) (x : ℕ) → S.counted x w ≡ x + pick (w .off) 1 0
-      unfolding S.counted pick
-      off-one w x = go (w .off)
-        where
-          go : (t : Bool) → pick t (x + 1) x ≡ x + pick t 1 0
-          go true = refl
-          go false = sym (add-zero x)
-
       sampled : (w : Value) → 8 ≤ r → leadEnd byte k r ≡ false → samplesIn k j (suc r) ≡ suc (samplesIn k j r)
           → w ≡ valueAt (shapeIn k) byte (samplesIn k j r) → Hop i s p (S.sample (form byte k i p) w (byte p))
       unfolding S.sample S.pair pick offAt numbersAt upto
       sampled w u e n v =
           on (fine u) (goes i (trackAt byte k j r) (exps byte k p) _ (sym (track-still byte k j r (λ x. omega arith) (λ x. omega arith))) (no-lead e)
-          (rw (n, v) (off-one (valueAt (shapeIn k) byte (samplesIn k j r)) (offIn j r))))
+          (rw (n, v)))
           (rw v (ap (listUpto (numbersAt (shapeIn k) byte)) (sym n ∙ wrap-place (samplesIn k) (samples-wrap k pos some j))))
 
       shown : 8 ≤ r → Grown k pos some j r

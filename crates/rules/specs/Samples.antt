@@ -10,7 +10,7 @@ use Rattle.basis.specs.Fields.{field}
 use Rattle.basis.specs.Upto.{sumUpto}
 use Rattle.codes.specs.Codes.{perOf, leadOf, wordBytesOf}
 use Rattle.words.specs.declared.Value.{Value}
-use Rattle.words.specs.Words.{valueOf}
+use Rattle.words.specs.Words.{valueOf, offOne}
 use Rattle.layout.specs.Places.{groupPlaceOf, wordPlaceOf}
 use Rattle.rules.specs.Scans.{Shape}
 
@@ -51,4 +51,4 @@ module _ (sh : Shape) (byte : ℕ → ℕ) where
 
   -- 1 where it is off rule
   unfoldable pub offAt : ℕ → ℕ
-  offAt n = pick (valueAt n .off) 1 0
+  offAt n = offOne (valueAt n)

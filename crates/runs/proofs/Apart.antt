@@ -7,10 +7,10 @@ use native.Mathlib.Nat.{add-zero, zero-add, add-assoc}
 use native.Mathlib.Omega.{arith}
 use Rattle.basis.specs.Digits.{byteIn}
 use Rattle.basis.specs.Upto.{upto}
-use Rattle.words.specs.Words.{valueOf}
+use Rattle.words.specs.Words.{valueOf, offOne}
 use Rattle.entries.specs.Entries.{byteCode}
 use Rattle.runs.specs.Words.{byteValue}
-use Rattle.runs.specs.Runs.{offOne, offs}
+use Rattle.runs.specs.Runs.{offs}
 use Rattle.runs.proofs.Done.{one-low, offs-more, offs-low}
 
 -- at the head of a loop over the bytes from k to e: those before i are counted

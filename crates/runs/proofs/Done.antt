@@ -13,7 +13,8 @@ use Rattle.basis.proofs.Choices.{pick-both}
 use Rattle.basis.proofs.Uptos.{upto-more}
 use Rattle.words.specs.declared.Value.{Value}
 use Rattle.runs.specs.declared.Ran.{Ran}
-use Rattle.runs.specs.Runs.{offOne, offs, numbers, over, samplesIn, ran, filled}
+use Rattle.words.specs.Words.{offOne}
+use Rattle.runs.specs.Runs.{offs, numbers, over, samplesIn, ran, filled}
 use Rattle.runs.proofs.Writes.{take-two, drop-two, further}
 
 pub one-low : (w : Value) → offOne w ≤ 1

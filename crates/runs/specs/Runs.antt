@@ -4,16 +4,12 @@ use Prim.Native.Nat.{ℕ, min, _/_}
 use mathlib.Core.List.{List, [], _∷_, _++_}
 use lib.IntN.{ℤ}
 use lib.ListN.{length, drop}
-use Rattle.basis.specs.Choice.{pick}
 use Rattle.basis.specs.Upto.{sumUpto, listUpto}
 use Rattle.words.specs.declared.Value.{Value}
+use Rattle.words.specs.Words.{offOne}
 use Rattle.runs.specs.declared.Ran.{Ran}
 
--- 1 for an off-rule word
-unfoldable pub offOne : Value → ℕ
-offOne w = pick (w .off) 1 0
-
--- the same of word k
+-- 1 where word k is off rule
 abbrev offAt : (ℕ → Value) → ℕ → ℕ
 offAt f k = offOne (f k)
 

@@ -3,10 +3,10 @@ ghost use mathlib.Core.Path.{_≡_};
 ghost use Prim.Native.Nat.{min, _+_, _*_, _/_, _%_, _≤_, _<_};
 ghost use lib.ListN.{length, set};
 ghost use Rattle.basis.specs.Digits.{written, byteIn};
-ghost use Rattle.words.specs.Words.{valueOf};
+ghost use Rattle.words.specs.Words.{valueOf, offOne};
 ghost use Rattle.entries.specs.Entries.{byteCode};
 ghost use Rattle.runs.specs.Words.{wordsIn, groupedIn, groupExponent, groupWord, byteValue, plainValue, groupedValue, restValue};
-ghost use Rattle.runs.specs.Runs.{offOne, offs, numbers, over, ran, filled};
+ghost use Rattle.runs.specs.Runs.{offs, numbers, over, ran, filled};
 use words::Value;
 
 // What a run came to: the samples that it wrote, and how many of their words are off rule.

@@ -11,12 +11,13 @@ use Rattle.basis.specs.Choice.{pick, _and_, _or_}
 use Rattle.basis.specs.Fields.{field}
 use Rattle.basis.proofs.Choices.{pick-both}
 use Rattle.words.specs.declared.Value.{Value}
+use Rattle.words.specs.Words.{offOne}
 use Rattle.scan.specs.declared.Shape.{Shape}
 use Rattle.scan.specs.declared.Track.{Track}
 use Rattle.scan.specs.declared.State.{State}
 use Rattle.scan.specs.declared.Stepped.{Stepped}
 use Rattle.scan.specs.Fit.{Fit, stopb}
-use Rattle.scan.specs.Step.{step, after, still, halt, halted, moved, quiet, sync, start, marked, seen, phased, mark, timed, time, low, counted, sample, plain, grouped, word}
+use Rattle.scan.specs.Step.{step, after, still, halt, halted, moved, quiet, sync, start, marked, seen, phased, mark, timed, time, low, sample, plain, grouped, word}
 use Rattle.scan.proofs.Choices.{pick-cases}
 
 -- the steps
@@ -124,8 +125,8 @@ fit-time s b f =
     (fit-halt s 17 f refl)
 
 fit-sample : (s : State) (w : Value) (b : ℕ) → Fit s → Keeps (sample s w b)
-unfolding Keeps sample counted
-fit-sample s w b f = fit-moved s _ _ _ b f (f .seen) (f .itb) (f .twi) (f .exponents) (pick-both (λ n. n ≤ s .place + 1) (w .off) (omega arith) (omega arith))
+unfolding Keeps sample offOne
+fit-sample s w b f = fit-moved s _ _ _ b f (f .seen) (f .itb) (f .twi) (f .exponents) (pick-both (λ n. s .off + n ≤ s .place + 1) (w .off) (omega arith) (omega arith))
 
 fit-plain : (s : State) (b w q : ℕ) → Fit s → Keeps (plain s b w q)
 unfolding plain

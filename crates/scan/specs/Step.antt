@@ -8,7 +8,7 @@ use lib.Dec.{eqb, ltb, leb}
 use Rattle.basis.specs.Choice.{pick, _and_, _or_}
 use Rattle.basis.specs.Fields.{field}
 use Rattle.codes.specs.Codes.{groupOf}
-use Rattle.words.specs.Words.{valueOf}
+use Rattle.words.specs.Words.{valueOf, offOne}
 use Rattle.words.specs.declared.Value.{Value}
 use Rattle.scan.specs.declared.Shape.{Shape}
 use Rattle.scan.specs.declared.Track.{Track}
@@ -121,13 +121,9 @@ instep s b =
 unfoldable pub time : State → ℕ → Stepped
 time s b = pick (instep s b) (still (moved s (timed (s .track) (s .held) b) (s .exponents) (s .off) b)) (halt s 17)
 
--- off-rule words, with one word more
-unfoldable pub counted : ℕ → Value → ℕ
-counted off w = pick (w .off) (off + 1) off
-
--- the last byte of a word: its sample
+-- the last byte of a word: its sample, counted where it is off rule
 unfoldable pub sample : State → Value → ℕ → Stepped
-sample s w b = record { state = moved s (s .track) (s .exponents) (counted (s .off) w) b; wrote = true; word = w }
+sample s w b = record { state = moved s (s .track) (s .exponents) (s .off + offOne w) b; wrote = true; word = w }
 
 -- a byte of a word of w bytes, at place q of the scan
 unfoldable pub plain : State → ℕ → ℕ → ℕ → Stepped

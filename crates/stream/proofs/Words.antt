@@ -16,13 +16,13 @@ use Rattle.basis.specs.Fields.{field}
 use Rattle.basis.proofs.Digits.{Next, along, wrap, next}
 use Rattle.codes.specs.Codes.{groupOf}
 use Rattle.words.specs.declared.Value.{Value}
-use Rattle.words.specs.Words.{valueOf}
-use Rattle.runs.specs.Runs.{offOne, offs}
+use Rattle.words.specs.Words.{valueOf, offOne}
+use Rattle.runs.specs.Runs.{offs}
 use Rattle.runs.specs.Words.{plainValue, groupedIn, groupedValue, groupExponent, groupWord, restValue, turnOf}
 use Rattle.runs.proofs.Done.{offs-more}
 use Rattle.scan.specs.declared.State.{State}
 use Rattle.scan.specs.declared.Stepped.{Stepped}
-use Rattle.scan.specs.Step.{step, word, plain, grouped, nibble, quiet, still, sample, moved, shift, low, counted}
+use Rattle.scan.specs.Step.{step, word, plain, grouped, nibble, quiet, still, sample, moved, shift, low}
 use Rattle.stream.specs.Bulk.{Able, at, heldAt}
 use Rattle.stream.proofs.Held.{held-low}
 use Rattle.stream.proofs.Turns.{Turn, quietly, giving}
@@ -54,14 +54,6 @@ step-word t b q hs hp hq h8 =
       ne-eqb q 7 (λ e. omega arith),
     )
 
-counted-one : (off : ℕ) (w : Value) → counted off w ≡ off + offOne w
-unfolding counted offOne pick
-counted-one off w = go (w .off)
-  where
-    go : (t : Bool) → pick t (off + 1) off ≡ off + pick t 1 0
-    go true = refl
-    go false = sym (add-zero off)
-
 -- a sample completed
 abbrev gave : State → Value → Stepped
 gave t x = record { state = t; wrote = true; word = x }
@@ -90,8 +82,8 @@ module _ (s : State) (bs : List ℕ) (w : ℕ) (a : Able s w (length bs)) (i : �
   sample-next : (f : ℕ → Value) (n held e : ℕ) (x : Value) → x ≡ f n → sample (at s i (s .off + offs f n) held e) x (getD bs i 0) ≡ gave (at s (suc i) (s .off + offs f (n + 1)) (shift held (getD bs i 0)) e) (f n)
   unfolding sample at
   sample-next f n held e x ex =
-      let o : counted (s .off + offs f n) (f n) ≡ s .off + offs f (n + 1) = counted-one (s .off + offs f n) (f n) ∙ rw (offs-more f n, add-assoc) in
-      rw ex (ap (λ (t : State). gave t (f n)) (at-next s i (s .off + offs f n) held e (counted (s .off + offs f n) (f n)) e (getD bs i 0) ∙ ap (λ (k : ℕ). at s (suc i) k (shift held (getD bs i 0)) e) o))
+      let o : s .off + offs f n + offOne (f n) ≡ s .off + offs f (n + 1) = rw (offs-more f n, add-assoc) in
+      rw ex (ap (λ (t : State). gave t (f n)) (at-next s i (s .off + offs f n) held e (s .off + offs f n + offOne (f n)) e (getD bs i 0) ∙ ap (λ (k : ℕ). at s (suc i) k (shift held (getD bs i 0)) e) o))
 
 -- ---- words that stand alone
 

@@ -5,10 +5,11 @@ use scan::Stepped;
 use scan::Track;
 use words::Value;
 ghost use mathlib.Core.Path.{_≡_};
-ghost use Prim.Native.Nat.{_≤_, _<_};
+ghost use Prim.Native.Nat.{_+_, _≤_, _<_};
 ghost use Rattle.scan.specs.Step as Step;
 ghost use Rattle.scan.specs.Fit.{Fit};
 ghost use Rattle.codes.specs.Codes.{groupOf};
+ghost use Rattle.words.specs.Words.{offOne};
 ghost use Rattle.stream.specs.Spots as Spots;
 
 // A state as it is, with nothing written.
@@ -207,9 +208,9 @@ fn nibble(e: u32, g: u32) -> u32
 }
 
 // Off-rule words, with one word more.
-fn counted(off: u32, w: Value) -> u32
+fn count(off: u32, w: Value) -> u32
     requires { ⌜ off < 4294967295 ⌝ }
-    ensures { λ r. ⌜ r ≡ Step.counted off w ⌝ }
+    ensures { λ r. ⌜ r ≡ off + offOne w ⌝ }
 {
     if w.off { off + 1 } else { off }
 }
@@ -219,7 +220,7 @@ fn sample(s: State, w: Value, b: u8) -> Stepped
     requires { ⌜ (s .place < 4294967295) × (s .off ≤ s .place) ⌝ }
     ensures { λ r. ⌜ r ≡ Step.sample s w b ⌝ }
 {
-    let t = moved(s, s.track, s.exponents, counted(s.off, w), b);
+    let t = moved(s, s.track, s.exponents, count(s.off, w), b);
     Stepped {
         state: t,
         wrote: true,

@@ -113,3 +113,7 @@ valued (Refused r) = record { m = pos 0; x = pos 0; off = false }
 -- the sample of a word that its code has
 unfoldable pub valueOf : ℕ → ℕ → ℕ → Value
 valueOf code c word = valued (wordOf code c word)
+
+-- 1 for an off-rule word
+unfoldable pub offOne : Value → ℕ
+offOne w = pick (w .off) 1 0

@@ -3,7 +3,7 @@
 use Rattle.basis.specs.Choice.{pick}
 use Rattle.basis.proofs.Rules.{tests}
 use native.Mathlib.Nat.{add-zero}
-use Rattle.runs.specs.Runs.{offOne}
+use Rattle.words.specs.Words.{offOne}
 use borrow.Author.Needs.{needs}
 use Rattle.runs.proofs.count.Statement.{statement}
 use Rattle.runs.proofs.count.Tie as tie

@@ -4,7 +4,7 @@ use mathlib.Core.Path.{sym, _∙_}
 use native.Mathlib.Nat.{add-zero}
 use Rattle.basis.specs.Choice.{pick}
 use Rattle.basis.proofs.Rules.{tests}
-use Rattle.runs.specs.Runs.{offOne}
+use Rattle.words.specs.Words.{offOne}
 use borrow.Author.Needs.{needs}
 use Rattle.runs.proofs.count_byte.Statement.{statement}
 use Rattle.runs.proofs.count_byte.Tie as tie

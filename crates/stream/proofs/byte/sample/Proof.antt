@@ -5,15 +5,15 @@ use borrow.Author.Needs.{needs}
 use Rattle.stream.proofs.byte.sample.Statement.{statement}
 use Rattle.stream.proofs.byte.sample.Tie as tie
 
-counted-requires : tie.Need-counted-requires
-counted-requires c κs = search needs
+count-requires : tie.Need-count-requires
+count-requires c κs = search needs
 
 moved-requires : tie.Need-moved-requires
 moved-requires c κs = search needs
 
 returns : tie.Need-returns
 unfolding sample
-returns c = rw (c .moved .ensures, c .before .counted .ensures)
+returns c = rw (c .moved .ensures, c .before .count .ensures)
 
 pub sample-spec : {M : Type 1} → statement M
-sample-spec = tie.close (tie.spec counted-requires moved-requires returns)
+sample-spec = tie.close (tie.spec count-requires moved-requires returns)
