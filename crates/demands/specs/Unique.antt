@@ -51,7 +51,7 @@ use Rattle.parts.proofs.skew.Reads as parts-skew
 use Rattle.parts.proofs.skew_at.Reads as parts-skew-at
 use Rattle.parts.proofs.sample_time.Reads as parts-sample-time
 use Rattle.scan.proofs.fit.Reads as scan-fit
-use Rattle.runs.proofs.bytes_by.Reads as runs-bytes-by
+use Rattle.runs.proofs.byte_words.Reads as runs-byte-words
 use Rattle.runs.proofs.words24.Reads as runs-words24
 use Rattle.runs.proofs.words44.Reads as runs-words44
 use Rattle.runs.proofs.words48.Reads as runs-words48
@@ -139,8 +139,8 @@ pub record Unique : Type 0 where
   pub skew-at : OneAnswer parts-skew-at.Post
   pub sample-time : OneAnswer parts-sample-time.Post
   pub fit : OneAnswer scan-fit.Post
-  pub bytes-by : OneAnswer runs-bytes-by.Post
-  pub bytes-by-content : OneContent runs-bytes-by.Post (λ κ e. e .1 .1 .0 .now)
+  pub byte-words : OneAnswer runs-byte-words.Post
+  pub byte-words-content : OneContent runs-byte-words.Post (λ κ e. e .1 .1 .0 .now)
   pub words24 : OneAnswer runs-words24.Post
   pub words24-content : OneContent runs-words24.Post (λ κ e. e .1 .0 .now)
   pub words44 : OneAnswer runs-words44.Post

@@ -139,7 +139,7 @@ fn off_bytes(code: u16, bytes: &[u8], n: usize) -> usize
 }
 
 // Words of one byte, of 0022 or else of 0042. Off-rule words are counted apart, since that takes less than to count each with its sample.
-pub fn bytes_by(code: u16, bytes: &[u8], out: &mut [i32]) -> Ran
+pub fn byte_words(code: u16, bytes: &[u8], out: &mut [i32]) -> Ran
     ensures { λ r. ⌜ r ≡ ran (wordsIn 1) (byteValue code) (now (bytes .entry)) (now (out .entry)) ⌝ }
     ensures { λ r. ⌜ now (out .exit) ≡ filled (wordsIn 1) (byteValue code) (now (bytes .entry)) (now (out .entry)) ⌝ }
 {

@@ -114,7 +114,7 @@ fn by_code(code: u16, w: u32, g: u32, e: u32, bytes: &[u8], out: &mut [i32]) -> 
     if code == 0x0015 {
         return by_groups(g, e, bytes, out);
     }
-    runs::bytes_by(code, bytes, out)
+    runs::byte_words(code, bytes, out)
 }
 
 // The lesser of two numbers.

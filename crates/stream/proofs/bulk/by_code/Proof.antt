@@ -58,8 +58,8 @@ returns-4 c =
     let w = width-is 0x0015 _ (c .before .before .before .before .before .before .before .before .pre .0) e group15 in
     (rw (w, e) (c .before .by-groups .ensures .0), rw (w, e) (c .before .by-groups .ensures .1))
 
-bytes-by-requires : tie.Need-bytes-by-requires
-bytes-by-requires c κs = search needs
+byte-words-requires : tie.Need-byte-words-requires
+byte-words-requires c κs = search needs
 
 same-length-5 : tie.Need-same-length-5
 same-length-5 c = search needs
@@ -69,7 +69,7 @@ unfolding valueIn wordsOf pick
 returns-5 c =
     let z = c .before .before .before .before .before .before .before .before in
     let n = narrow (z .args .code) (z .args .w) (z .pre .0) (z .pre .1) (z .pre .2) (c .before .before .before .before .before .before .if1 .left) (c .before .before .before .before .before .if2 .left) (c .before .before .before .before .if3 .left) (c .before .before .before .if4 .left) in
-    (rw (n .width, ← n .value) (c .before .bytes-by .ensures .0), rw (n .width, ← n .value) (c .before .bytes-by .ensures .1))
+    (rw (n .width, ← n .value) (c .before .byte-words .ensures .0), rw (n .width, ← n .value) (c .before .byte-words .ensures .1))
 
 pub by-code-spec : {M : Type 1} → statement M
-by-code-spec = tie.close (tie.spec words24-requires same-length returns words44-requires same-length-2 returns-2 words48-requires same-length-3 returns-3 by-groups-requires same-length-4 returns-4 bytes-by-requires same-length-5 returns-5)
+by-code-spec = tie.close (tie.spec words24-requires same-length returns words44-requires same-length-2 returns-2 words48-requires same-length-3 returns-3 by-groups-requires same-length-4 returns-4 byte-words-requires same-length-5 returns-5)

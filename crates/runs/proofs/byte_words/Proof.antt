@@ -1,4 +1,4 @@
--- `runs::bytes_by` meets its contract: its loop keeps that the first k words are written.
+-- `runs::byte_words` meets its contract: its loop keeps that the first k words are written.
 -- Assumes nothing.
 use Prim.Native.Nat.{_-_}
 use native.Mathlib.Nat.{div-one}
@@ -8,8 +8,8 @@ use lib.ListN.{length}
 use Rattle.runs.specs.Words.{wordsIn, byteValue}
 use Rattle.runs.specs.Runs.{offs}
 use Rattle.runs.proofs.Done.{Done, done-zero, done-next, done-told, loop-ends}
-use Rattle.runs.proofs.bytes_by.Statement.{statement}
-use Rattle.runs.proofs.bytes_by.Tie as tie
+use Rattle.runs.proofs.byte_words.Statement.{statement}
+use Rattle.runs.proofs.byte_words.Tie as tie
 
 abbrev Inv-loop : tie.InvT-loop
 Inv-loop code bytes out₀ n k₀ out k = Done (byteValue code bytes) (wordsIn 1 (length bytes)) n out₀ out (offs (byteValue code bytes) k) k
@@ -61,8 +61,8 @@ returns c =
     let r = loop-ends (wordsIn 1) (byteValue (z .args .code)) (now (z .args .bytes)) d h in
     (rw (done-told d h (c .off-bytes .ensures)) (r .0), r .1)
 
-pub bytes-by-spec : {M : Type 1} → statement M
-bytes-by-spec =
+pub byte-words-spec : {M : Type 1} → statement M
+byte-words-spec =
     tie.close
     (tie.spec
     Inv-loop
