@@ -220,16 +220,16 @@ module _ (byte : ℕ → ℕ) where
 
     pub phased-same : (j b : ℕ) → (0 < j → dpOf (shapeIn k) byte 0 ≡ 0) → b ≡ inScan (shapeIn k) byte j 4 → (r : ℕ) → r ≡ 3
         → S.phased (trackAt j r) (k .types) b ≡ not (phaseWrong (shapeIn k) byte j)
-    unfolding S.phased S.marked pick
+    unfolding S.phased S.typed pick
     phased-same zero b z e r q = rw (q, e) (bit-test (dpOf (shapeIn k) byte 0) (bit-low (inScan (shapeIn k) byte 0 4) 4))
     phased-same (suc j) b z e r q =
         rw (q, ne-eqb (typeOf (shapeIn k) byte j) 0 (λ x. omega arith), seen-same (suc j) b z e) (le-test (typeOf (shapeIn k) byte (suc j)) (k .types))
 
     -- ---- the fourth and the eighth byte
-    pub marked-same : (j b : ℕ) → (0 < j → dpOf (shapeIn k) byte 0 ≡ 0) → b ≡ inScan (shapeIn k) byte j 4 → (r : ℕ) → r ≡ 3 → S.marked (trackAt j r) b ≡ trackAt j (suc r)
-    unfolding S.marked pick
-    marked-same zero b z e r q = rw (q, seen-same 0 b z e, e)
-    marked-same (suc j) b z e r q = rw (q, seen-same (suc j) b z e, ne-eqb (typeOf (shapeIn k) byte j) 0 (λ x. omega arith))
+    pub typed-same : (j b : ℕ) → (0 < j → dpOf (shapeIn k) byte 0 ≡ 0) → b ≡ inScan (shapeIn k) byte j 4 → (r : ℕ) → r ≡ 3 → S.typed (trackAt j r) b ≡ trackAt j (suc r)
+    unfolding S.typed pick
+    typed-same zero b z e r q = rw (q, seen-same 0 b z e, e)
+    typed-same (suc j) b z e r q = rw (q, seen-same (suc j) b z e, ne-eqb (typeOf (shapeIn k) byte j) 0 (λ x. omega arith))
 
     time-is : (j : ℕ) → timeOf (shapeIn k) byte j ≡ (byte (j * scan k + 4) * 256 + byte (suc (j * scan k + 4))) * 256 + byte (suc (suc (j * scan k + 4)))
     unfolding written

@@ -33,7 +33,7 @@ use Rattle.rules.specs.Faults.{scanFault, byteFault}
 use Rattle.rules.specs.Samples.{valueAt, numbersAt, offAt}
 use Rattle.agree.proofs.Plans.{Plan, per, lead, width, group, scan, shapeIn, samplesIn, Width, w2, Kind, singles, fours, samples-wrap, Grown, same, more, grown, inGroup, turn, groupStart, wordStart, value-now}
 use Rattle.agree.proofs.Tests.{Spot, start, fourth, time, nought, word, spot}
-use Rattle.agree.proofs.Form.{headOf, tail, low-same, leadEnd, exps, exps-next, trackAt, track-all, track-still, form, Inv, past, full-same, not-full, phased-same, marked-same, instep-same, timed-same}
+use Rattle.agree.proofs.Form.{headOf, tail, low-same, leadEnd, exps, exps-next, trackAt, track-all, track-still, form, Inv, past, full-same, not-full, phased-same, typed-same, instep-same, timed-same}
 
 module _ (byte : ℕ → ℕ) (k : Plan) (pos : 0 < width k) (some : 0 < per k) (small : (p : ℕ) → byte p < 256) where
   -- what is put out of the first p bytes
@@ -148,9 +148,9 @@ module _ (byte : ℕ → ℕ) (k : Plan) (pos : 0 < width k) (some : 0 < per k) 
           go true f = halts i s (Block p) (here f)
           go false f = sync-hop (omega arith) f
 
-      mark-hop : r ≡ 3 → Hop i s p (S.mark (form byte k i p) (byte p))
-      unfolding S.mark pick _and_ _or_
-      mark-hop z = go (eqb (byte p % 4) 1) (phaseWrong (shapeIn k) byte j) refl refl
+      phase-hop : r ≡ 3 → Hop i s p (S.phase (form byte k i p) (byte p))
+      unfolding S.phase pick _and_ _or_
+      phase-hop z = go (eqb (byte p % 4) 1) (phaseWrong (shapeIn k) byte j) refl refl
         where
           f : past byte k i s p ≡ false
           f = not-full byte k i s p (inv .begun) (λ x. omega (arith, z))
@@ -161,16 +161,16 @@ module _ (byte : ℕ → ℕ) (k : Plan) (pos : 0 < width k) (some : 0 < per k) 
           dp : 0 < j → dpOf (shapeIn k) byte 0 ≡ 0
           dp h = inv .phase (far h)
 
-          go : (t u : Bool) → eqb (byte p % 4) 1 ≡ t → phaseWrong (shapeIn k) byte j ≡ u → Hop i s p (S.mark (form byte k i p) (byte p))
+          go : (t u : Bool) → eqb (byte p % 4) 1 ≡ t → phaseWrong (shapeIn k) byte j ≡ u → Hop i s p (S.phase (form byte k i p) (byte p))
           go false u e w = rw e (halts i s (Sync p) (in-scan f ∙ rw (lt-leb (r + 1) 3 (omega (arith, z)), eq-eqb (r + 1) 4 (omega (arith, z)), last-bits (byte p), e)))
           go true true e w =
               rw (e, phased-same byte k j (byte p) dp b r z, w)
               (halts i s (Phase p) (in-scan f ∙ rw (lt-leb (r + 1) 3 (omega (arith, z)), eq-eqb (r + 1) 4 (omega (arith, z)), last-bits (byte p), e, w)))
           go true false e w =
               rw (e, phased-same byte k j (byte p) dp b r z, w)
-              (quietly i s (S.marked (trackAt byte k j r) (byte p)) (exps byte k p)
+              (quietly i s (S.typed (trackAt byte k j r) (byte p)) (exps byte k p)
               (in-scan f ∙ rw (lt-leb (r + 1) 3 (omega (arith, z)), eq-eqb (r + 1) 4 (omega (arith, z)), ne-eqb (r + 1) 8 (λ x. omega (arith, z)), last-bits (byte p), e, w))
-              (marked-same byte k j (byte p) dp b r z) (no-lead (lead-early (omega (arith, z)))) (early (omega (arith, z))))
+              (typed-same byte k j (byte p) dp b r z) (no-lead (lead-early (omega (arith, z)))) (early (omega (arith, z))))
 
       time-hop : r ≡ 7 → Hop i s p (S.time (form byte k i p) (byte p))
       unfolding S.time pick _and_ _or_
@@ -377,15 +377,15 @@ module _ (byte : ℕ → ℕ) (k : Plan) (pos : 0 < width k) (some : 0 < per k) 
         go true l = rw l (halts i s (Long p) (unfold byteFault in (rw l refl)))
         go false l = rw l (by (spot r))
           where
-            by : Spot r → Hop i s p (pick (eqb r 0) (S.start (form byte k i p) (byte p)) (pick (ltb r 3) (S.sync (form byte k i p) (byte p)) (pick (eqb r 3) (S.mark (form byte k i p) (byte p))
+            by : Spot r → Hop i s p (pick (eqb r 0) (S.start (form byte k i p) (byte p)) (pick (ltb r 3) (S.sync (form byte k i p) (byte p)) (pick (eqb r 3) (S.phase (form byte k i p) (byte p))
                 (pick (ltb r 7) (S.quiet (form byte k i p) (byte p)) (pick (eqb r 7) (S.time (form byte k i p) (byte p)) (S.word (form byte k i p) (byte p) r))))))
             by (start u) = at (eqb r 0) refl
               where
-                at : (t : Bool) → eqb r 0 ≡ t → Hop i s p (pick t (S.start (form byte k i p) (byte p)) (pick (ltb r 3) (S.sync (form byte k i p) (byte p)) (pick (eqb r 3) (S.mark (form byte k i p) (byte p))
+                at : (t : Bool) → eqb r 0 ≡ t → Hop i s p (pick t (S.start (form byte k i p) (byte p)) (pick (ltb r 3) (S.sync (form byte k i p) (byte p)) (pick (eqb r 3) (S.phase (form byte k i p) (byte p))
                     (pick (ltb r 7) (S.quiet (form byte k i p) (byte p)) (pick (eqb r 7) (S.time (form byte k i p) (byte p)) (S.word (form byte k i p) (byte p) r))))))
                 at true e = start-hop i s inv l (eqb-true r 0 e)
                 at false e = rw (lt-ltb r 3 u) (sync-hop i s inv l u (not-full byte k i s p (inv .begun) (eqb-false r 0 e)))
-            by (fourth e) = rw (ne-eqb r 0 (λ x. omega arith), le-ltb r 3 (omega arith), eq-eqb r 3 e) (mark-hop i s inv l e)
+            by (fourth e) = rw (ne-eqb r 0 (λ x. omega arith), le-ltb r 3 (omega arith), eq-eqb r 3 e) (phase-hop i s inv l e)
             by (time a b) = rw (ne-eqb r 0 (λ x. omega arith), le-ltb r 3 (omega arith), ne-eqb r 3 (λ x. omega arith), lt-ltb r 7 b) (timing-quiet i s inv l a b)
             by (nought e) = rw (ne-eqb r 0 (λ x. omega arith), le-ltb r 3 (omega arith), ne-eqb r 3 (λ x. omega arith), le-ltb r 7 (omega arith), eq-eqb r 7 e) (time-hop i s inv l e)
             by (word u) =

@@ -12,7 +12,7 @@ use Rattle.basis.proofs.Choices.{pick-both}
 use Rattle.scan.specs.declared.State.{State}
 use Rattle.scan.specs.declared.Track.{Track}
 use Rattle.scan.specs.declared.Stepped.{Stepped}
-use Rattle.scan.specs.Step.{still, halted, halt, moved, quiet, sync, start, mark, time, sample, plain, grouped, word, step, after}
+use Rattle.scan.specs.Step.{still, halted, halt, moved, quiet, sync, start, phase, time, sample, plain, grouped, word, step, after}
 use Rattle.words.specs.declared.Value.{Value}
 use Rattle.scan.proofs.Choices.{pick-cases}
 use Rattle.header.specs.declared.Header.{Header}
@@ -61,7 +61,7 @@ unfolding still
 stays s u z = absurd (eqb-false (s .stop) 0 u z)
 
 on-step : (s : State) (b : ℕ) → On s (step s b)
-unfolding step start mark time
+unfolding step start phase time
 on-step s b =
     pick-cases (On s) (eqb (s .stop) 0)
     (λ u. pick-both (On s) _ (on-halt s 14 (omega arith))

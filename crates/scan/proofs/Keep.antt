@@ -17,7 +17,7 @@ use Rattle.scan.specs.declared.Track.{Track}
 use Rattle.scan.specs.declared.State.{State}
 use Rattle.scan.specs.declared.Stepped.{Stepped}
 use Rattle.scan.specs.Fit.{Fit, stopb}
-use Rattle.scan.specs.Step.{step, after, still, halt, halted, moved, quiet, sync, start, marked, seen, phased, mark, timed, time, low, sample, plain, grouped, word}
+use Rattle.scan.specs.Step.{step, after, still, halt, halted, moved, quiet, sync, start, typed, seen, phased, phase, timed, time, low, sample, plain, grouped, word}
 use Rattle.scan.proofs.Choices.{pick-cases}
 
 -- the steps
@@ -85,23 +85,23 @@ unfolding pick
 seen-low types x true q l e = l
 seen-low types x false q l e = leb-true _ _ e
 
-phased-seen : (k : Track) (types b : ℕ) → 1 ≤ types → phased k types b ≡ true → marked k b .seen ≤ types
-unfolding phased marked seen
+phased-seen : (k : Track) (types b : ℕ) → 1 ≤ types → phased k types b ≡ true → typed k b .seen ≤ types
+unfolding phased typed seen
 phased-seen k types b l e = seen-low types _ (eqb (k .seen) 0) _ l e
 
-marked-itb : (k : Track) (b : ℕ) → k .itb ≤ 1 → marked k b .itb ≤ 1
-unfolding marked field
-marked-itb k b h = pick-both (λ n. n ≤ 1) _ (omega arith) h
+typed-itb : (k : Track) (b : ℕ) → k .itb ≤ 1 → typed k b .itb ≤ 1
+unfolding typed field
+typed-itb k b h = pick-both (λ n. n ≤ 1) _ (omega arith) h
 
-marked-twi : (k : Track) (b : ℕ) → k .twi ≤ 1 → marked k b .twi ≤ 1
-unfolding marked
-marked-twi k b h = h
+typed-twi : (k : Track) (b : ℕ) → k .twi ≤ 1 → typed k b .twi ≤ 1
+unfolding typed
+typed-twi k b h = h
 
-fit-mark : (s : State) (b : ℕ) → Fit s → Keeps (mark s b)
-unfolding mark stopb _or_ _and_
-fit-mark s b f =
+fit-phase : (s : State) (b : ℕ) → Fit s → Keeps (phase s b)
+unfolding phase stopb _or_ _and_
+fit-phase s b f =
     pick-both Keeps _
-    (pick-cases Keeps _ (λ e. fit-still (fit-moved s (marked (s .track) b) _ _ b f (phased-seen (s .track) _ b (f .some) e) (marked-itb (s .track) b (f .itb)) (marked-twi (s .track) b (f .twi)) (f .exponents) (omega arith)))
+    (pick-cases Keeps _ (λ e. fit-still (fit-moved s (typed (s .track) b) _ _ b f (phased-seen (s .track) _ b (f .some) e) (typed-itb (s .track) b (f .itb)) (typed-twi (s .track) b (f .twi)) (f .exponents) (omega arith)))
     (λ e. fit-halt s 18 f refl))
     (fit-halt s 16 f refl)
 
@@ -148,7 +148,7 @@ fit-word s b q f = pick-both Keeps _ (fit-grouped s b _ f) (fit-plain s b _ q f)
 fit-kept : (s : State) (b : ℕ) → Fit s → Keeps (step s b)
 unfolding step stopb _or_ _and_
 fit-kept s b f =
-    pick-both Keeps _ (pick-both Keeps _ (fit-halt s 14 f refl) (pick-both Keeps _ (fit-start s b f) (pick-both Keeps _ (fit-sync s b f) (pick-both Keeps _ (fit-mark s b f) (pick-both Keeps _ (fit-quiet s b f) (pick-both Keeps _ (fit-time s b f) (fit-word s b _ f))))))) (fit-still f)
+    pick-both Keeps _ (pick-both Keeps _ (fit-halt s 14 f refl) (pick-both Keeps _ (fit-start s b f) (pick-both Keeps _ (fit-sync s b f) (pick-both Keeps _ (fit-phase s b f) (pick-both Keeps _ (fit-quiet s b f) (pick-both Keeps _ (fit-time s b f) (fit-word s b _ f))))))) (fit-still f)
 
 pub fit-step : (s : State) (b : ℕ) → Fit s → Fit (step s b .state)
 unfolding Keeps
@@ -194,7 +194,7 @@ unfolding still
 shape-still s = refl
 
 pub shape-step : (s : State) (b : ℕ) → step s b .state .shape ≡ s .shape
-unfolding step start mark time
+unfolding step start phase time
 shape-step s b =
     let P = Shaped (s .shape) in
     pick-both P _ (pick-both P _ (shape-halt s 14) (pick-both P _ (pick-both P _ (shape-halt s 15) (shape-sync s b)) (pick-both P _ (shape-sync s b) (pick-both P _ (pick-both P _ (pick-both P _ (shape-move s _ _ _ b) (shape-halt s 18)) (shape-halt s 16)) (pick-both P _ (shape-quiet s b) (pick-both P _ (pick-both P _ (shape-move s _ _ _ b) (shape-halt s 17)) (shape-word s b _))))))) (shape-still s)

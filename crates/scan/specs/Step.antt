@@ -86,20 +86,20 @@ unfoldable pub seen : ℕ → ℕ → ℕ
 seen n b = pick (eqb n 0) 1 (pick (eqb (field b 4 1) ((n + 1) % 2)) n (n + 1))
 
 -- byte 4 tells the scan type, and that of the first scan ITB
-unfoldable pub marked : Track → ℕ → Track
-marked k b =
+unfoldable pub typed : Track → ℕ → Track
+typed k b =
     record { timing = k .timing; seen = seen (k .seen) b; itb = pick (eqb (k .seen) 0) (field b 5 1) (k .itb); twi = k .twi; window = k .window }
 
 -- no PHASE, which is "first DP is 1, or a flip past the last scan type"
 unfoldable pub phased : Track → ℕ → ℕ → Bool
-phased k types b = pick (eqb (k .seen) 0) (eqb (field b 4 1) 0) (leb (marked k b .seen) types)
+phased k types b = pick (eqb (k .seen) 0) (eqb (field b 4 1) 0) (leb (typed k b .seen) types)
 
 -- byte 4: "a byte with last bits 01"
-unfoldable pub mark : State → ℕ → Stepped
-mark s b =
+unfoldable pub phase : State → ℕ → Stepped
+phase s b =
     pick (eqb (b % 4) 1)
     (pick (phased (s .track) (s .shape .types) b)
-    (still (moved s (marked (s .track) b) (s .exponents) (s .off) b))
+    (still (moved s (typed (s .track) b) (s .exponents) (s .off) b))
     (halt s 18))
     (halt s 16)
 
@@ -159,7 +159,7 @@ step s b =
     (pick (ltb (s .place % s .shape .scan) 3)
     (sync s b)
     (pick (eqb (s .place % s .shape .scan) 3)
-    (mark s b)
+    (phase s b)
     (pick (ltb (s .place % s .shape .scan) 7)
     (quiet s b)
     (pick (eqb (s .place % s .shape .scan) 7) (time s b) (word s b (s .place % s .shape .scan))))))))

@@ -17,7 +17,7 @@ use Rattle.basis.specs.Digits.{written, byteIn}
 use Rattle.basis.proofs.Choices.{and-true}
 use Rattle.scan.specs.declared.Track.{Track}
 use Rattle.scan.specs.declared.State.{State}
-use Rattle.scan.specs.Step.{step, still, moved, quiet, sync, start, full, mark, marked, phased, time, timed, instep, shift, after, wrote, pair}
+use Rattle.scan.specs.Step.{step, still, moved, quiet, sync, start, full, phase, typed, phased, time, timed, instep, shift, after, wrote, pair}
 use Rattle.runs.specs.Runs.{over}
 use Rattle.stream.specs.declared.Chunk.{Chunk}
 use Rattle.stream.specs.Bulk.{chunk, chunkOut}
@@ -51,9 +51,9 @@ module _ (t : State) (b : ℕ) (hs : t .stop ≡ 0) (hp : t .place < 4294967295)
   at-sync q hq lo hi e =
       rw (eq-eqb (t .stop) 0 hs, ne-eqb (t .place) 4294967295 (λ x. omega arith), hq, ne-eqb q 0 (λ x. omega arith), lt-ltb q 3 hi, eq-eqb b 255 e)
 
-  at-mark : t .place % t .shape .scan ≡ 3 → b % 4 ≡ 1 → phased (t .track) (t .shape .types) b ≡ true → step t b ≡ still (moved t (marked (t .track) b) (t .exponents) (t .off) b)
-  unfolding step mark pick
-  at-mark hq m p = rw (eq-eqb (t .stop) 0 hs, ne-eqb (t .place) 4294967295 (λ x. omega arith), hq, eq-eqb (b % 4) 1 m, p)
+  at-phase : t .place % t .shape .scan ≡ 3 → b % 4 ≡ 1 → phased (t .track) (t .shape .types) b ≡ true → step t b ≡ still (moved t (typed (t .track) b) (t .exponents) (t .off) b)
+  unfolding step phase pick
+  at-phase hq m p = rw (eq-eqb (t .stop) 0 hs, ne-eqb (t .place) 4294967295 (λ x. omega arith), hq, eq-eqb (b % 4) 1 m, p)
 
   at-quiet : (q : ℕ) → t .place % t .shape .scan ≡ q → 3 < q → q < 7 → step t b ≡ quiet t b
   unfolding step pick
@@ -130,7 +130,7 @@ module _ (s : State) (bs : List ℕ) (i : ℕ) (a : Sound s bs i) (l : (j : ℕ)
   next j n t u v h e g = rw (drop-cons bs (i + j) 0 (omega (arith, a .whole)), ← add-suc i j) (goes-on t u v (byteIn bs (i + j)) (take n (drop (i + suc j) bs)) e g)
 
   abbrev k : Track
-  k = marked (s .track) (byteIn bs (i + 3))
+  k = typed (s .track) (byteIn bs (i + 3))
 
   -- the state after them
   abbrev pub done : State
@@ -168,11 +168,11 @@ module _ (s : State) (bs : List ℕ) (i : ℕ) (a : Sound s bs i) (l : (j : ℕ)
       (quietly 6 1 _ k done (omega arith) (among 6 _ k (omega arith) (omega arith))
       (rw (held-last x) from-time)))
 
-  from-mark : (x : ℕ) → Goes (into s 3 (s .track) x) (take 5 (drop (i + 3) bs)) done
+  from-phase : (x : ℕ) → Goes (into s 3 (s .track) x) (take 5 (drop (i + 3) bs)) done
   unfolding into
-  from-mark x =
+  from-phase x =
       next 3 4 (into s 3 (s .track) x) (into s 4 k (shift x (byteIn bs (i + 3)))) done (omega arith)
-      (at-mark (into s 3 (s .track) x) (byteIn bs (i + 3)) (a .stop) (omega (arith, a .room)) (spot 3 (omega arith)) (r .bits) (r .phase) ∙ ap still (into-next s 3 (s .track) k x (byteIn bs (i + 3))))
+      (at-phase (into s 3 (s .track) x) (byteIn bs (i + 3)) (a .stop) (omega (arith, a .room)) (spot 3 (omega arith)) (r .bits) (r .phase) ∙ ap still (into-next s 3 (s .track) k x (byteIn bs (i + 3))))
       (from-quiet x)
 
   from-first : Goes (into s 0 (s .track) (s .held)) (take 8 (drop (i + 0) bs)) done
@@ -180,7 +180,7 @@ module _ (s : State) (bs : List ℕ) (i : ℕ) (a : Sound s bs i) (l : (j : ℕ)
       quietly 0 7 (s .held) (s .track) done (omega arith) (at-none (s .held))
       (quietly 1 6 _ (s .track) done (omega arith) (in-sync 1 _ (omega arith) (omega arith) (r .sync2))
       (quietly 2 5 _ (s .track) done (omega arith) (in-sync 2 _ (omega arith) (omega arith) (r .sync3))
-      (from-mark _)))
+      (from-phase _)))
 
   pub eight : Goes s (take 8 (drop i bs)) done
   eight = rw (into-none s, add-zero i) at from-first

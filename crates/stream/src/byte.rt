@@ -98,9 +98,9 @@ fn start(s: State, b: u8) -> Stepped
 }
 
 // Byte 4 of a scan tells its scan type, and that of the first scan ITB.
-pub(crate) fn marked(k: Track, b: u8) -> Track
+pub(crate) fn typed(k: Track, b: u8) -> Track
     requires { ⌜ k .seen ≤ 99 ⌝ }
-    ensures { λ r. ⌜ r ≡ Step.marked k b ⌝ }
+    ensures { λ r. ⌜ r ≡ Step.typed k b ⌝ }
 {
     let mut t = k;
     let n = b as u32;
@@ -124,20 +124,20 @@ pub(crate) fn phased(k: Track, types: u32, b: u8) -> bool
     if k.seen == 0 {
         return b / 16 % 2 == 0;
     }
-    let t = marked(k, b);
+    let t = typed(k, b);
     t.seen <= types
 }
 
 // Byte 4 of a scan: its last two sync bits, and DP.
-fn mark(s: State, b: u8) -> Stepped
+fn phase(s: State, b: u8) -> Stepped
     requires { ⌜ (s .place < 4294967295) × (s .track .seen ≤ 99) ⌝ }
-    ensures { λ r. ⌜ r ≡ Step.mark s b ⌝ }
+    ensures { λ r. ⌜ r ≡ Step.phase s b ⌝ }
 {
     if b % 4 != 1 {
         return halt(s, 16);
     }
     if phased(s.track, s.shape.types, b) {
-        still(moved(s, marked(s.track, b), s.exponents, s.off, b))
+        still(moved(s, typed(s.track, b), s.exponents, s.off, b))
     } else {
         halt(s, 18)
     }
@@ -305,7 +305,7 @@ pub(crate) fn step(s: State, w: u32, b: u8) -> Stepped
         return sync(s, b);
     }
     if q == 3 {
-        return mark(s, b);
+        return phase(s, b);
     }
     if q < 7 {
         return quiet(s, b);

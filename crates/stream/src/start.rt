@@ -5,10 +5,10 @@ use crate::bulk::four;
 use crate::bulk::run_at;
 use crate::byte::full;
 use crate::byte::instep;
-use crate::byte::marked;
 use crate::byte::moved;
 use crate::byte::phased;
 use crate::byte::timed;
+use crate::byte::typed;
 use scan::State;
 ghost use mathlib.Core.Path.{_≡_};
 ghost use mathlib.Core.Bool.{true};
@@ -27,7 +27,7 @@ fn seventh(s: State, bytes: &[u8], i: usize) -> State
 {
     let mut t = s;
     t.place = s.place + 7;
-    t.track = marked(s.track, bytes[i + 3]);
+    t.track = typed(s.track, bytes[i + 3]);
     t.held = four(bytes, i + 3);
     t
 }

@@ -12,12 +12,12 @@ returns : tie.Need-returns
 unfolding phased pick field
 returns c = search tests
 
-marked-requires : tie.Need-marked-requires
-marked-requires c κs = search needs
+typed-requires : tie.Need-typed-requires
+typed-requires c κs = search needs
 
 returns-2 : tie.Need-returns-2
 unfolding phased pick field
-returns-2 c = search (tests, c .before .marked .ensures)
+returns-2 c = search (tests, c .before .typed .ensures)
 
 pub phased-spec : {M : Type 1} → statement M
-phased-spec = tie.close (tie.spec returns marked-requires returns-2)
+phased-spec = tie.close (tie.spec returns typed-requires returns-2)

@@ -39,12 +39,12 @@ returns-4 : tie.Need-returns-4
 unfolding step pick
 returns-4 c = search (tests, c .sync .ensures)
 
-mark-requires : tie.Need-mark-requires
-mark-requires c κs = search needs
+phase-requires : tie.Need-phase-requires
+phase-requires c κs = search needs
 
 returns-5 : tie.Need-returns-5
 unfolding step pick
-returns-5 c = search (tests, c .mark .ensures)
+returns-5 c = search (tests, c .phase .ensures)
 
 quiet-requires : tie.Need-quiet-requires
 quiet-requires c κs = search needs
@@ -80,7 +80,7 @@ step-spec =
     returns-3
     sync-requires
     returns-4
-    mark-requires
+    phase-requires
     returns-5
     quiet-requires
     returns-6

@@ -8,14 +8,14 @@ use Rattle.stream.proofs.start.seventh.Tie as tie
 add-t : tie.Need-add-t
 add-t c = search needs
 
-add-marked : tie.Need-add-marked
-add-marked c = search needs
+add-typed : tie.Need-add-typed
+add-typed c = search needs
 
-shared-slice-read-marked : tie.Need-shared-slice-read-marked
-shared-slice-read-marked c = search needs
+shared-slice-read-typed : tie.Need-shared-slice-read-typed
+shared-slice-read-typed c = search needs
 
-marked-requires : tie.Need-marked-requires
-marked-requires c κs = search needs
+typed-requires : tie.Need-typed-requires
+typed-requires c κs = search needs
 
 add-four : tie.Need-add-four
 add-four c = search needs
@@ -25,16 +25,16 @@ four-requires c κs = search needs
 
 returns : tie.Need-returns
 unfolding seventh into
-returns c = rw (c .four .ensures, c .before .marked .ensures)
+returns c = rw (c .four .ensures, c .before .typed .ensures)
 
 pub seventh-spec : {M : Type 1} → statement M
 seventh-spec =
     tie.close
     (tie.spec
     add-t
-    add-marked
-    shared-slice-read-marked
-    marked-requires
+    add-typed
+    shared-slice-read-typed
+    typed-requires
     add-four
     four-requires
     returns)

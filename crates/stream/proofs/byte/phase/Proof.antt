@@ -1,25 +1,25 @@
--- `stream::byte::mark` meets its contract.
+-- `stream::byte::phase` meets its contract.
 -- Assumes nothing.
 use mathlib.Core.Path.{sym, _∙_}
-use Rattle.scan.specs.Step.{mark}
+use Rattle.scan.specs.Step.{phase}
 use Rattle.basis.specs.Choice.{pick}
 use Rattle.basis.proofs.Rules.{tests}
 use borrow.Author.Needs.{needs}
-use Rattle.stream.proofs.byte.mark.Statement.{statement}
-use Rattle.stream.proofs.byte.mark.Tie as tie
+use Rattle.stream.proofs.byte.phase.Statement.{statement}
+use Rattle.stream.proofs.byte.phase.Tie as tie
 
 halt-requires : tie.Need-halt-requires
 halt-requires c κs = search needs
 
 returns : tie.Need-returns
-unfolding mark pick
+unfolding phase pick
 returns c = search (tests, c .halt .ensures)
 
 phased-requires : tie.Need-phased-requires
 phased-requires c κs = search needs
 
-marked-requires : tie.Need-marked-requires
-marked-requires c κs = search needs
+typed-requires : tie.Need-typed-requires
+typed-requires c κs = search needs
 
 moved-requires : tie.Need-moved-requires
 moved-requires c κs = search needs
@@ -31,21 +31,21 @@ halt-requires-2 : tie.Need-halt-requires-2
 halt-requires-2 c κs = search needs
 
 returns-2 : tie.Need-returns-2
-unfolding mark pick
-returns-2 c = search (tests, sym (c .before .before .before .before .phased .ensures) ∙ c .before .before .before .if2 .taken, c .still .ensures, c .before .moved .ensures, c .before .before .marked .ensures)
+unfolding phase pick
+returns-2 c = search (tests, sym (c .before .before .before .before .phased .ensures) ∙ c .before .before .before .if2 .taken, c .still .ensures, c .before .moved .ensures, c .before .before .typed .ensures)
 
 returns-3 : tie.Need-returns-3
-unfolding mark pick
+unfolding phase pick
 returns-3 c = search (tests, sym (c .before .before .phased .ensures) ∙ c .before .if2 .left, c .halt2 .ensures)
 
-pub mark-spec : {M : Type 1} → statement M
-mark-spec =
+pub phase-spec : {M : Type 1} → statement M
+phase-spec =
     tie.close
     (tie.spec
     halt-requires
     returns
     phased-requires
-    marked-requires
+    typed-requires
     moved-requires
     still-requires
     halt-requires-2
