@@ -51,7 +51,7 @@ two-are-one s a b m n k ha hb h = go (fitb s) refl
 -- ---- two numbers are written for each sample that is answered
 two-more : (r : Stepped) (w : List ℤ) → length w % 2 ≡ 0 → length (pair r ++ w) % 2 ≡ 0
 unfolding pair
-two-more r w e = pick-both (λ (l : List ℤ). length (l ++ w) % 2 ≡ 0) (r .wrote) (omega (arith, e)) e
+two-more r w e = pick-both (λ (l : List ℤ). length (l ++ w) % 2 ≡ 0) (r .completed) (omega (arith, e)) e
 
 even : (s : State) (bs : List ℕ) → length (wrote s bs) % 2 ≡ 0
 unfolding wrote

@@ -21,7 +21,7 @@ none = record { m = pos 0; x = pos 0; off = false }
 
 -- a state as it is, with nothing written
 unfoldable pub still : State → Stepped
-still s = record { state = s; wrote = false; word = none }
+still s = record { state = s; completed = false; value = none }
 
 -- "14 to 18 stop the body at a place counted from 0"
 unfoldable pub halted : State → ℕ → State
@@ -123,7 +123,7 @@ time s b = pick (instep s b) (still (moved s (timed (s .track) (s .held) b) (s .
 
 -- the last byte of a word: its sample, counted where it is off rule
 unfoldable pub sample : State → Value → ℕ → Stepped
-sample s w b = record { state = moved s (s .track) (s .exponents) (s .off + offOne w) b; wrote = true; word = w }
+sample s w b = record { state = moved s (s .track) (s .exponents) (s .off + offOne w) b; completed = true; value = w }
 
 -- a byte of a word of w bytes, at place q of the scan
 unfoldable pub plain : State → ℕ → ℕ → ℕ → Stepped
@@ -172,7 +172,7 @@ after s (b ∷ bs) = after (step s b .state) bs
 
 -- "each sample gives M then X when its last byte arrives"
 unfoldable pub pair : Stepped → List ℤ
-pair r = pick (r .wrote) (r .word .m ∷ r .word .x ∷ []) []
+pair r = pick (r .completed) (r .value .m ∷ r .value .x ∷ []) []
 
 -- what some bytes write
 unfoldable pub wrote : State → List ℕ → List ℤ

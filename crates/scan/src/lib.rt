@@ -55,8 +55,8 @@ pub struct State {
 // What one byte comes to: the next state, and the sample that it completed, if it did.
 pub struct Stepped {
     pub state: State,
-    pub wrote: bool,
-    pub word: Value,
+    pub completed: bool,
+    pub value: Value,
 }
 
 // Whether the code has words, and a scan a whole number of its groups.

@@ -33,11 +33,11 @@ pub record Going (bs : List ℕ) (out₀ : List ℤ) (s : State) (out : List ℤ
 pub going-start : (bs : List ℕ) (out : List ℤ) (s : State) → Fit s → Going bs out s out s 0 0
 going-start bs out s f = record { fit = f; shape = refl; in-bytes = omega arith; in-out = omega arith; same = refl; state = refl; front = refl; back = refl }
 
-pair-none : (W : List ℤ) (r : Stepped) → r .wrote ≡ false → W ++ pair r ≡ W
+pair-none : (W : List ℤ) (r : Stepped) → r .completed ≡ false → W ++ pair r ≡ W
 unfolding pair pick
 pair-none W r q = rw (q, append-nil)
 
-pair-some : (W : List ℤ) (r : Stepped) → r .wrote ≡ true → W ++ pair r ≡ W ++ (r .word .m ∷ r .word .x ∷ [])
+pair-some : (W : List ℤ) (r : Stepped) → r .completed ≡ true → W ++ pair r ≡ W ++ (r .value .m ∷ r .value .x ∷ [])
 unfolding pair pick
 pair-some W r q = rw q
 
@@ -50,7 +50,7 @@ module _ (bs : List ℕ) (out₀ : List ℤ) (s : State) (out : List ℤ) (t : S
   unfolding wrote
   next-front W h e g = rw (e, add-one, append-assoc) (rw (drop-cons bs i 0) at g)
 
-  pub going-quiet : Going bs out₀ s out t n i → i < length bs → r ≡ step t (getD bs i 0) → r .wrote ≡ false → Going bs out₀ s out (r .state) n (i + 1)
+  pub going-quiet : Going bs out₀ s out t n i → i < length bs → r ≡ step t (getD bs i 0) → r .completed ≡ false → Going bs out₀ s out (r .state) n (i + 1)
   going-quiet g h e q =
       record {
         fit = rw e (fit-step t (getD bs i 0) (g .fit));
@@ -63,7 +63,7 @@ module _ (bs : List ℕ) (out₀ : List ℤ) (s : State) (out : List ℤ) (t : S
         back = g .back;
       }
 
-  pub going-wrote : Going bs out₀ s out t n i → 2 * length bs ≤ length out₀ → i < length bs → r ≡ step t (getD bs i 0) → r .wrote ≡ true → Going bs out₀ s (set (set out n (r .word .m)) (n + 1) (r .word .x)) (r .state) (n + 2) (i + 1)
+  pub going-wrote : Going bs out₀ s out t n i → 2 * length bs ≤ length out₀ → i < length bs → r ≡ step t (getD bs i 0) → r .completed ≡ true → Going bs out₀ s (set (set out n (r .value .m)) (n + 1) (r .value .x)) (r .state) (n + 2) (i + 1)
   going-wrote g room h e q =
       record {
         fit = rw e (fit-step t (getD bs i 0) (g .fit));
@@ -72,8 +72,8 @@ module _ (bs : List ℕ) (out₀ : List ℤ) (s : State) (out : List ℤ) (t : S
         in-out = omega arith;
         same = simp length-set (g .same);
         state = next-state h e (g .state);
-        front = ap (λ (l : List ℤ). l ++ wrote (r .state) (drop (i + 1) bs)) (take-two out n (r .word .m) (r .word .x) (omega (arith, g .same)) ∙ sym (pair-some (take n out) r q)) ∙ next-front (take n out) h e (g .front);
-        back = drop-two out n (r .word .m) (r .word .x) ∙ further n 2 out out₀ (g .back);
+        front = ap (λ (l : List ℤ). l ++ wrote (r .state) (drop (i + 1) bs)) (take-two out n (r .value .m) (r .value .x) (omega (arith, g .same)) ∙ sym (pair-some (take n out) r q)) ∙ next-front (take n out) h e (g .front);
+        back = drop-two out n (r .value .m) (r .value .x) ∙ further n 2 out out₀ (g .back);
       }
 
 pub record Gone (bs : List ℕ) (out₀ : List ℤ) (s : State) (out : List ℤ) (t : State) (n : ℕ) : Type 0 where

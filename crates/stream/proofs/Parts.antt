@@ -43,9 +43,9 @@ rest-none out n = drop-of-length-le (drop n out) {i = length out - n} (simp leng
 pub put-part : (out last W : List ℤ) (n : ℕ) → last ≡ over W (take (length out - n) (drop n out)) → take n out ++ (last ++ drop (length out - n) (drop n out)) ≡ take n out ++ over W (drop n out)
 put-part out last W n e = rw (e, rest-all out n, rest-none out n, append-nil)
 
-pub chunk-length : (s : State) (bs : List ℕ) (i k : ℕ) (r : Chunk) → r ≡ chunk s (take k (drop i bs)) → r .wrote ≤ 2 * k
+pub chunk-length : (s : State) (bs : List ℕ) (i k : ℕ) (r : Chunk) → r ≡ chunk s (take k (drop i bs)) → r .count ≤ 2 * k
 unfolding chunk
 chunk-length s bs i k r e =
-    let w = ap (λ (x : Chunk). x .wrote) e in
+    let w = ap (λ (x : Chunk). x .count) e in
     let l : length (take k (drop i bs)) ≤ k = rw (length-take k (drop i bs)) (min-le-left k (length (drop i bs))) in
     omega (arith, w, l, wrote-length s (take k (drop i bs)))

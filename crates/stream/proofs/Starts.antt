@@ -186,7 +186,7 @@ module _ (s : State) (bs : List ℕ) (i : ℕ) (a : Sound s bs i) (l : (j : ℕ)
   eight = rw (into-none s, add-zero i) at from-first
 
   -- as some bytes taken at once, of which nothing is written
-  pub start-chunk : (n : ℕ) (t : State) → n ≡ 8 → t ≡ after s (take 8 (drop i bs)) → _≡_ {A = Chunk} (record { state = t; wrote = 0 }) (chunk s (take n (drop i bs)))
+  pub start-chunk : (n : ℕ) (t : State) → n ≡ 8 → t ≡ after s (take 8 (drop i bs)) → _≡_ {A = Chunk} (record { state = t; count = 0 }) (chunk s (take n (drop i bs)))
   unfolding chunk
   start-chunk n t e et = rw (e, et, eight .list)
 

@@ -29,7 +29,7 @@ wrote-one s b = append-nil (pair (step s b))
 module _ (bs : List ℕ) (F : ℕ → State) (D : ℕ → ℕ) (f : ℕ → Value) where
   pub data Turn (i : ℕ) : Type 0 where
     quietly : step (F i) (getD bs i 0) ≡ still (F (suc i)) → D (suc i) ≡ D i → Turn i
-    giving : step (F i) (getD bs i 0) ≡ record { state = F (suc i); wrote = true; word = f (D i) } → D (suc i) ≡ D i + 1 → Turn i
+    giving : step (F i) (getD bs i 0) ≡ record { state = F (suc i); completed = true; value = f (D i) } → D (suc i) ≡ D i + 1 → Turn i
 
   pub record SoFar (i : ℕ) : Type 0 where
     pub state : after (F 0) (take i bs) ≡ F i

@@ -125,7 +125,7 @@ module _ (s : State) (w g : ℕ) (bs : List ℕ) (out : List ℤ) (r : Ran) (e :
   unfolding ran
   ran-samples = rw e (samples-few w g (length bs) (length out))
 
-  pub ran-chunk : Comes s w g bs (samplesIn (wordsOf w g (length bs)) (length out)) → (t : State) → t ≡ ranTo s w g bs (r .off) → _≡_ {A = Chunk} (record { state = t; wrote = 2 * r .samples }) (chunk s bs)
+  pub ran-chunk : Comes s w g bs (samplesIn (wordsOf w g (length bs)) (length out)) → (t : State) → t ≡ ranTo s w g bs (r .off) → _≡_ {A = Chunk} (record { state = t; count = 2 * r .samples }) (chunk s bs)
   unfolding chunk ran
   ran-chunk c t et = rw (et, e, c .state, c .list, numbers-length (valueIn (s .shape .code) w g (s .exponents) bs) (samplesIn (wordsOf w g (length bs)) (length out)))
 

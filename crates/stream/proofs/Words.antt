@@ -56,7 +56,7 @@ step-word t b q hs hp hq h8 =
 
 -- a sample completed
 abbrev gave : State → Value → Stepped
-gave t x = record { state = t; wrote = true; word = x }
+gave t x = record { state = t; completed = true; value = x }
 
 -- a byte of a run that may be taken at once: where it stands, and the states that follow it
 module _ (s : State) (bs : List ℕ) (w : ℕ) (a : Able s w (length bs)) (i : ℕ) (h : i < length bs) where

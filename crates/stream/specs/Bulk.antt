@@ -88,7 +88,7 @@ ranTo s w g bs off = at s (length bs) (s .off + off) (heldAt bs (s .held) (lengt
 
 -- what some bytes come to, byte by byte: the state after them, and how many numbers they write
 unfoldable pub chunk : State → List ℕ → Chunk
-chunk s bs = record { state = after s bs; wrote = length (wrote s bs) }
+chunk s bs = record { state = after s bs; count = length (wrote s bs) }
 
 -- the output with the numbers of some bytes from n on
 unfoldable pub chunkOut : State → List ℕ → ℕ → List ℤ → List ℤ

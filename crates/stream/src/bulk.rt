@@ -154,7 +154,7 @@ fn run(s: State, w: u32, bytes: &[u8], out: &mut [i32]) -> Chunk
     let t = ran_to(s, w, g, bytes, r.off);
     Chunk {
         state: t,
-        wrote: 2 * r.samples,
+        count: 2 * r.samples,
     }
 }
 

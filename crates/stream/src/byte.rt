@@ -18,8 +18,8 @@ fn still(s: State) -> Stepped
 {
     Stepped {
         state: s,
-        wrote: false,
-        word: Value {
+        completed: false,
+        value: Value {
             m: 0,
             x: 0,
             off: false,
@@ -223,8 +223,8 @@ fn sample(s: State, w: Value, b: u8) -> Stepped
     let t = moved(s, s.track, s.exponents, count(s.off, w), b);
     Stepped {
         state: t,
-        wrote: true,
-        word: w,
+        completed: true,
+        value: w,
     }
 }
 

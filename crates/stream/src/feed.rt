@@ -57,8 +57,8 @@ fn feed(s: State, bytes: &[u8], out: &mut [i32]) -> Gave
             let r = step(t, w, bytes[i]);
             t = r.state;
             i += 1;
-            if r.wrote {
-                let x = r.word;
+            if r.completed {
+                let x = r.value;
                 put(out, n, x);
                 n += 2;
             }
@@ -66,7 +66,7 @@ fn feed(s: State, bytes: &[u8], out: &mut [i32]) -> Gave
             let r = take_at(t, w, bytes, i, k, out, n);
             t = r.state;
             i += k;
-            n += r.wrote;
+            n += r.count;
         }
     }
     let a = answered(t, n);

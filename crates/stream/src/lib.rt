@@ -26,10 +26,10 @@ pub struct Gave {
     pub answer: Answer,
 }
 
-// Some bytes at once: the state after them, and the numbers that they wrote.
+// Some bytes at once: the state after them, and how many numbers they wrote.
 struct Chunk {
     state: State,
-    wrote: usize,
+    count: usize,
 }
 
 // The refusal of a stop, by its number; PHASE for 18 and for any number that no stop has.

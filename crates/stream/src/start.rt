@@ -116,7 +116,7 @@ pub(crate) fn take_at(
     if s.place % s.shape.scan == 0 {
         return Chunk {
             state: started(s, bytes, i),
-            wrote: 0,
+            count: 0,
         };
     }
     run_at(s, w, bytes, i, k, out, n)

@@ -130,7 +130,7 @@ loop-again-3 c =
     let z = a .before .before .before in
     let h = c .before .before .before .before .before .before .ahead-at .ensures in
     let r = c .before .before .before .take-at .ensures in
-    going-chunk (now (z .args .bytes)) (now (z .args .out)) (z .args .s) (b .out) (b .t) (b .n) (b .i) _ (b .inv) (z .pre .1) (omega (arith, h .within, c .before .before .before .before .before .before .before .loop-test .taken)) _ _ _ (ap (λ (x : Chunk). x .state) (r .0)) (ap (λ (x : Chunk). x .wrote) (r .0)) (r .1)
+    going-chunk (now (z .args .bytes)) (now (z .args .out)) (z .args .s) (b .out) (b .t) (b .n) (b .i) _ (b .inv) (z .pre .1) (omega (arith, h .within, c .before .before .before .before .before .before .before .loop-test .taken)) _ _ _ (ap (λ (x : Chunk). x .state) (r .0)) (ap (λ (x : Chunk). x .count) (r .0)) (r .1)
 
 answered-requires : tie.Need-answered-requires Inv-loop μ-loop
 answered-requires c κs =
