@@ -64,7 +64,7 @@ module _ (b : List ℕ) (bytes : Bytes b) (clear : headerFault b ≡ Clear) wher
   opened-fits = rw opened-state (fresh-fit (headOf (planOf b)) ∙ head-fits b clear bytes)
 
   abbrev opening : Reading
-  opening = record { state = O.opened b .state; written = [] }
+  opening = record { state = O.opened b .state; numbers = [] }
 
   -- the closed form's agreement, for the reader from its opening
   at : (cs : List Call) (h : BytesIn cs) → AgreesAt (planOf b) (planned b clear .pos) (planned b clear .some) (planned b clear .kind) (types-few b clear .0) (bodyOf cs) (small cs h) (runOf (readingOf b cs))
@@ -75,13 +75,13 @@ module _ (b : List ℕ) (bytes : Bytes b) (clear : headerFault b ≡ Clear) wher
   fits : (cs : List Call) → fitb (readingOf b cs .state) ≡ true
   fits cs = read-fits opening opened-fits cs
 
-  samples-at : (cs : List Call) → BytesIn cs → readingOf b cs .written ≡ numbersOf (shapeOf b) (bodyOf cs)
+  samples-at : (cs : List Call) → BytesIn cs → readingOf b cs .numbers ≡ numbersOf (shapeOf b) (bodyOf cs)
   samples-at cs h = at cs h .samples ∙ ap (λ (sh : Shape). numbersOf sh (bodyOf cs)) (sym (shape-same b clear))
 
   stops-at : (cs : List Call) → BytesIn cs → stopIn (readingOf b cs .state) ≡ stopOf (shapeOf b) (bodyOf cs)
   stops-at cs h = at cs h .stops ∙ ap (λ (sh : Shape). stopOf sh (bodyOf cs)) (sym (shape-same b clear))
 
-  length-at : (cs : List Call) → BytesIn cs → length (readingOf b cs .written) ≡ 2 * doneOf (shapeOf b) (bodyOf cs)
+  length-at : (cs : List Call) → BytesIn cs → length (readingOf b cs .numbers) ≡ 2 * doneOf (shapeOf b) (bodyOf cs)
   length-at cs h = ap length (samples-at cs h) ∙ samples-length (shapeOf b) (bodyOf cs)
 
   closes-at : (cs : List Call) → BytesIn cs → N.close (readingOf b cs .state) ≡ closedOf (closing (shapeOf b) (bodyOf cs))
@@ -103,8 +103,8 @@ module _ (b : List ℕ) (bytes : Bytes b) (clear : headerFault b ≡ Clear) wher
     now = readingOf b cs .state
 
     -- so many samples more
-    more : (c : Call) → BytesIn (c ∷ []) → 2 * doneOf (shapeOf b) (bodyOf (cs ++ (c ∷ []))) ≡ length (readOn (readingOf b cs) (c ∷ []) .written)
-    more c l = sym (length-at (cs ++ (c ∷ [])) (bytes-more cs c h l)) ∙ ap (λ (x : Reading). length (x .written)) (then cs c)
+    more : (c : Call) → BytesIn (c ∷ []) → 2 * doneOf (shapeOf b) (bodyOf (cs ++ (c ∷ []))) ≡ length (readOn (readingOf b cs) (c ∷ []) .numbers)
+    more c l = sym (length-at (cs ++ (c ∷ [])) (bytes-more cs c h l)) ∙ ap (λ (x : Reading). length (x .numbers)) (then cs c)
 
     stop-more : (c : Call) → BytesIn (c ∷ []) → stopIn (readOn (readingOf b cs) (c ∷ []) .state) ≡ stopOf (shapeOf b) (bodyOf (cs ++ (c ∷ [])))
     stop-more c l = sym (ap (λ (x : Reading). stopIn (x .state)) (then cs c)) ∙ stops-at (cs ++ (c ∷ [])) (bytes-more cs c h l)
@@ -120,7 +120,7 @@ module _ (b : List ℕ) (bytes : Bytes b) (clear : headerFault b ≡ Clear) wher
             rw e
             (by-stops n (stops-at cs h) (stop-more (put bs room) (l, tt))
             (portion-answer now (fits cs) bs room n e
-            (omega (arith, more (put bs room) (l, tt), length-at cs h, length-append (readingOf b cs .written) (K.written now bs room)))))
+            (omega (arith, more (put bs room) (l, tt), length-at cs h, length-append (readingOf b cs .numbers) (K.portionWrote now bs room)))))
 
     end-at : N.blockEnd now .answer ≡ answerTo (shapeOf b) cs end
     end-at =
@@ -141,12 +141,12 @@ agreement b bytes h e cs l =
 
 -- A header block that is turned away opens nothing.
 pub turned-away : TurnedAway
-unfolding O.opened K.portion K.written N.blockEnd N.close pick
+unfolding O.opened K.portion K.portionWrote N.blockEnd N.close pick
 turned-away b r e =
     record {
       opening = rw e;
       portions = λ bs room. rw unfit-not;
-      written = λ bs room. rw unfit-not;
+      writes = λ bs room. rw unfit-not;
       ends = rw unfit-not;
       closes = rw unfit-not;
     }

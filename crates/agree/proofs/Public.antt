@@ -31,21 +31,21 @@ use Rattle.agree.specs.Answers.{answerFrom, roomAnswer}
 use Rattle.agree.proofs.Whole.{stepOf, emitOf, endOf, dueIn, ended-due, ended-wrong, stopped-end, stopIn, feed-after}
 
 -- ---- what each call comes to
-portion-taken : (s : State) (bs : List ℕ) (room : ℕ) → fitb s ≡ true → K.portion s bs room ≡ K.taken s bs room
+portion-fits : (s : State) (bs : List ℕ) (room : ℕ) → fitb s ≡ true → K.portion s bs room ≡ K.fitPortion s bs room
 unfolding K.portion pick
-portion-taken s bs room e = rw e
+portion-fits s bs room e = rw e
 
-taken-on : (s : State) (bs : List ℕ) (room : ℕ) → eqb (s .stop) 0 ≡ true → ltb room (2 * length bs) ≡ false → K.taken s bs room ≡ K.fed s bs
-unfolding K.taken pick
-taken-on s bs room z e = rw (z, e)
+fit-on : (s : State) (bs : List ℕ) (room : ℕ) → eqb (s .stop) 0 ≡ true → ltb room (2 * length bs) ≡ false → K.fitPortion s bs room ≡ K.fed s bs
+unfolding K.fitPortion pick
+fit-on s bs room z e = rw (z, e)
 
-taken-none : (s : State) (bs : List ℕ) (room : ℕ) → eqb (s .stop) 0 ≡ true → ltb room (2 * length bs) ≡ true → K.taken s bs room ≡ K.unchanged s Room
-unfolding K.taken pick
-taken-none s bs room z e = rw (z, e)
+fit-none : (s : State) (bs : List ℕ) (room : ℕ) → eqb (s .stop) 0 ≡ true → ltb room (2 * length bs) ≡ true → K.fitPortion s bs room ≡ K.unchanged s Room
+unfolding K.fitPortion pick
+fit-none s bs room z e = rw (z, e)
 
-taken-off : (s : State) (bs : List ℕ) (room : ℕ) → eqb (s .stop) 0 ≡ false → K.taken s bs room ≡ record { state = s; answer = K.answered s 0 }
-unfolding K.taken pick
-taken-off s bs room z = rw z
+fit-off : (s : State) (bs : List ℕ) (room : ℕ) → eqb (s .stop) 0 ≡ false → K.fitPortion s bs room ≡ record { state = s; answer = K.answered s 0 }
+unfolding K.fitPortion pick
+fit-off s bs room z = rw z
 
 end-taken : (s : State) → fitb s ≡ true → N.blockEnd s ≡ N.ended s
 unfolding N.blockEnd pick
@@ -55,15 +55,15 @@ end-taken s e = rw e
 module _ (s : State) (f : fitb s ≡ true) where
   refused-state : (bs : List ℕ) (room : ℕ) → ltb room (2 * length bs) ≡ true → K.portion s bs room .state ≡ s
   unfolding K.unchanged
-  refused-state bs room e = ap (λ (g : Gave). g .state) (portion-taken s bs room f) ∙ go (eqb (s .stop) 0) refl
+  refused-state bs room e = ap (λ (g : Gave). g .state) (portion-fits s bs room f) ∙ go (eqb (s .stop) 0) refl
     where
-      go : (t : Bool) → eqb (s .stop) 0 ≡ t → K.taken s bs room .state ≡ s
-      go true z = ap (λ (g : Gave). g .state) (taken-none s bs room z e)
-      go false z = ap (λ (g : Gave). g .state) (taken-off s bs room z)
+      go : (t : Bool) → eqb (s .stop) 0 ≡ t → K.fitPortion s bs room .state ≡ s
+      go true z = ap (λ (g : Gave). g .state) (fit-none s bs room z e)
+      go false z = ap (λ (g : Gave). g .state) (fit-off s bs room z)
 
-  written-none : (bs : List ℕ) (room : ℕ) → ltb room (2 * length bs) ≡ true → K.written s bs room ≡ []
-  unfolding K.written K.kept pick
-  written-none bs room e = rw (f, e) (go (eqb (s .stop) 0))
+  wrote-none : (bs : List ℕ) (room : ℕ) → ltb room (2 * length bs) ≡ true → K.portionWrote s bs room ≡ []
+  unfolding K.portionWrote K.fitWrote pick
+  wrote-none bs room e = rw (f, e) (go (eqb (s .stop) 0))
     where
       go : (t : Bool) → _≡_ {A = List ℤ} (pick t [] []) []
       go true = refl
@@ -93,18 +93,18 @@ module _ (s : State) (f : fitb s ≡ true) where
   unfolding pick
   going z = rw z
 
-  pub portion-answer : (bs : List ℕ) (room m : ℕ) → ltb room (2 * length bs) ≡ false → 2 * m ≡ length (K.written s bs room)
+  pub portion-answer : (bs : List ℕ) (room m : ℕ) → ltb room (2 * length bs) ≡ false → 2 * m ≡ length (K.portionWrote s bs room)
       → K.portion s bs room .answer ≡ answerFrom (stopIn s) (stopIn (K.portion s bs room .state)) m
   unfolding K.fed
   portion-answer bs room m e n = go (eqb (s .stop) 0) refl
     where
       go : (t : Bool) → eqb (s .stop) 0 ≡ t → K.portion s bs room .answer ≡ answerFrom (stopIn s) (stopIn (K.portion s bs room .state)) m
       go true z =
-          let q : K.portion s bs room ≡ K.fed s bs = portion-taken s bs room f ∙ taken-on s bs room z e in
-          let l : length (K.written s bs room) ≡ length (S.wrote s bs) = ap length (portion-wrote s bs room (ltb-false room (2 * length bs) e) f) in
+          let q : K.portion s bs room ≡ K.fed s bs = portion-fits s bs room f ∙ fit-on s bs room z e in
+          let l : length (K.portionWrote s bs room) ≡ length (S.wrote s bs) = ap length (portion-wrote s bs room (ltb-false room (2 * length bs) e) f) in
           rw (q, going z) (on-answer (S.after s bs) (length (S.wrote s bs)) m (omega arith))
       go false z =
-          let q : K.portion s bs room ≡ record { state = s; answer = K.answered s 0 } = portion-taken s bs room f ∙ taken-off s bs room z in
+          let q : K.portion s bs room ≡ record { state = s; answer = K.answered s 0 } = portion-fits s bs room f ∙ fit-off s bs room z in
           rw q (off-answer z (stopIn s) m)
 
   pub room-answer : (bs : List ℕ) (room : ℕ) → ltb room (2 * length bs) ≡ true → K.portion s bs room .answer ≡ roomAnswer (stopIn s)
@@ -113,10 +113,10 @@ module _ (s : State) (f : fitb s ≡ true) where
     where
       go : (t : Bool) → eqb (s .stop) 0 ≡ t → K.portion s bs room .answer ≡ roomAnswer (stopIn s)
       go true z =
-          let q : K.portion s bs room ≡ K.unchanged s Room = portion-taken s bs room f ∙ taken-none s bs room z e in
+          let q : K.portion s bs room ≡ K.unchanged s Room = portion-fits s bs room f ∙ fit-none s bs room z e in
           rw (q, going z)
       go false z =
-          let q : K.portion s bs room ≡ record { state = s; answer = K.answered s 0 } = portion-taken s bs room f ∙ taken-off s bs room z in
+          let q : K.portion s bs room ≡ record { state = s; answer = K.answered s 0 } = portion-fits s bs room f ∙ fit-off s bs room z in
           rw q (off-room z)
 
   pub end-answer : N.blockEnd s .answer ≡ answerFrom (stopIn s) (stopIn (N.blockEnd s .state)) 0
@@ -136,36 +136,36 @@ module _ (s : State) (f : fitb s ≡ true) where
 
 -- ---- any calls
 abbrev pub runOf : Reading → Run State ℤ
-runOf c = record { st = c .state; out = c .written }
+runOf c = record { st = c .state; out = c .numbers }
 
 pub read-fits : (c : Reading) → fitb (c .state) ≡ true → (cs : List Call) → fitb (readOn c cs .state) ≡ true
 read-fits c f [] = f
 read-fits c f (put bs room ∷ cs) =
-    read-fits (record { state = K.portion (c .state) bs room .state; written = c .written ++ K.written (c .state) bs room }) (portion-fit (c .state) bs room f) cs
-read-fits c f (end ∷ cs) = read-fits (record { state = N.blockEnd (c .state) .state; written = c .written }) (end-fit (c .state) f) cs
+    read-fits (record { state = K.portion (c .state) bs room .state; numbers = c .numbers ++ K.portionWrote (c .state) bs room }) (portion-fit (c .state) bs room f) cs
+read-fits c f (end ∷ cs) = read-fits (record { state = N.blockEnd (c .state) .state; numbers = c .numbers }) (end-fit (c .state) f) cs
 
 pub read-pieces : (c : Reading) → fitb (c .state) ≡ true → (cs : List Call) → runOf (readOn c cs) ≡ pieces stepOf emitOf endOf (runOf c) (taken cs)
 unfolding pick
 read-pieces c f [] = refl
 read-pieces c f (put bs room ∷ cs) =
     go (ltb room (2 * length bs)) refl (read-pieces c f cs)
-    (read-pieces (record { state = S.after (c .state) bs; written = c .written ++ S.wrote (c .state) bs }) (of-fit (S.after (c .state) bs) (fit-after (c .state) bs (fit-of (c .state) f))) cs)
+    (read-pieces (record { state = S.after (c .state) bs; numbers = c .numbers ++ S.wrote (c .state) bs }) (of-fit (S.after (c .state) bs) (fit-after (c .state) bs (fit-of (c .state) f))) cs)
   where
     go : (t : Bool) → ltb room (2 * length bs) ≡ t
         → runOf (readOn c cs) ≡ pieces stepOf emitOf endOf (runOf c) (taken cs)
-        → runOf (readOn (record { state = S.after (c .state) bs; written = c .written ++ S.wrote (c .state) bs }) cs)
-        ≡ pieces stepOf emitOf endOf (record { st = S.after (c .state) bs; out = c .written ++ S.wrote (c .state) bs }) (taken cs)
-        → runOf (readOn (record { state = K.portion (c .state) bs room .state; written = c .written ++ K.written (c .state) bs room }) cs)
+        → runOf (readOn (record { state = S.after (c .state) bs; numbers = c .numbers ++ S.wrote (c .state) bs }) cs)
+        ≡ pieces stepOf emitOf endOf (record { st = S.after (c .state) bs; out = c .numbers ++ S.wrote (c .state) bs }) (taken cs)
+        → runOf (readOn (record { state = K.portion (c .state) bs room .state; numbers = c .numbers ++ K.portionWrote (c .state) bs room }) cs)
         ≡ pieces stepOf emitOf endOf (runOf c) (pick (ltb room (2 * length bs)) (taken cs) (portion bs ∷ taken cs))
-    go true e x y = rw (refused-state (c .state) f bs room e, written-none (c .state) f bs room e, append-nil (c .written), e) x
+    go true e x y = rw (refused-state (c .state) f bs room e, wrote-none (c .state) f bs room e, append-nil (c .numbers), e) x
     go false e x y =
         rw (portion-state (c .state) bs room (ltb-false room (2 * length bs) e) f, portion-wrote (c .state) bs room (ltb-false room (2 * length bs) e) f, e)
         (y ∙ ap (λ (x : Run State ℤ). pieces stepOf emitOf endOf x (taken cs)) (sym (feed-after (runOf c) bs)))
 read-pieces c f (end ∷ cs) =
-    ap (λ (s : State). runOf (readOn (record { state = s; written = c .written }) cs)) (end-state (c .state) f)
-    ∙ read-pieces (record { state = endOf (c .state); written = c .written }) (rw (end-state (c .state) f) at (end-fit (c .state) f)) cs
+    ap (λ (s : State). runOf (readOn (record { state = s; numbers = c .numbers }) cs)) (end-state (c .state) f)
+    ∙ read-pieces (record { state = endOf (c .state); numbers = c .numbers }) (rw (end-state (c .state) f) at (end-fit (c .state) f)) cs
 
 pub read-append : (c : Reading) (cs ds : List Call) → readOn c (cs ++ ds) ≡ readOn (readOn c cs) ds
 read-append c [] ds = refl
-read-append c (put bs room ∷ cs) ds = read-append (record { state = K.portion (c .state) bs room .state; written = c .written ++ K.written (c .state) bs room }) cs ds
-read-append c (end ∷ cs) ds = read-append (record { state = N.blockEnd (c .state) .state; written = c .written }) cs ds
+read-append c (put bs room ∷ cs) ds = read-append (record { state = K.portion (c .state) bs room .state; numbers = c .numbers ++ K.portionWrote (c .state) bs room }) cs ds
+read-append c (end ∷ cs) ds = read-append (record { state = N.blockEnd (c .state) .state; numbers = c .numbers }) cs ds

@@ -24,7 +24,7 @@ pub record Agrees (b : List ℕ) (cs : List Call) : Type 0 where
   -- every state reached is fit
   pub fit : fitb (readingOf b cs .state) ≡ true
   -- the samples written are those completed before the stop, or the body's end
-  pub samples : readingOf b cs .written ≡ numbersOf (shapeOf b) (bodyOf cs)
+  pub samples : readingOf b cs .numbers ≡ numbersOf (shapeOf b) (bodyOf cs)
   -- what a next portion, a block end or the closing question is answered
   pub portions : (bs : List ℕ) (room : ℕ) → Bytes bs → K.portion (readingOf b cs .state) bs room .answer ≡ answerTo (shapeOf b) cs (put bs room)
   pub ends : N.blockEnd (readingOf b cs .state) .answer ≡ answerTo (shapeOf b) cs end
@@ -38,7 +38,7 @@ Agreement = (b : List ℕ) → Bytes b → (h : Header) → headerAnswer b ≡ A
 pub record Unopened (b : List ℕ) (r : Refusal) : Type 0 where
   pub opening : O.opened b ≡ record { state = O.unfit; answer = P.Refused r }
   pub portions : (bs : List ℕ) (room : ℕ) → K.portion O.unfit bs room ≡ K.unchanged O.unfit State
-  pub written : (bs : List ℕ) (room : ℕ) → K.written O.unfit bs room ≡ []
+  pub writes : (bs : List ℕ) (room : ℕ) → K.portionWrote O.unfit bs room ≡ []
   pub ends : N.blockEnd O.unfit ≡ K.unchanged O.unfit State
   pub closes : N.close O.unfit ≡ N.refused State
 

@@ -32,17 +32,17 @@ BytesIn (end ∷ cs) = BytesIn cs
 -- its state, and the numbers that it has written, one portion's after another's
 pub record Reading : Type 0 where
   pub state : State
-  pub written : List ℤ
+  pub numbers : List ℤ
 
 -- call after call
 abbrev pub readOn : Reading → List Call → Reading
 readOn c [] = c
-readOn c (put bs room ∷ cs) = readOn (record { state = K.portion (c .state) bs room .state; written = c .written ++ K.written (c .state) bs room }) cs
-readOn c (end ∷ cs) = readOn (record { state = N.blockEnd (c .state) .state; written = c .written }) cs
+readOn c (put bs room ∷ cs) = readOn (record { state = K.portion (c .state) bs room .state; numbers = c .numbers ++ K.portionWrote (c .state) bs room }) cs
+readOn c (end ∷ cs) = readOn (record { state = N.blockEnd (c .state) .state; numbers = c .numbers }) cs
 
 -- from the opening on a header block
 abbrev pub readingOf : List ℕ → List Call → Reading
-readingOf b = readOn (record { state = O.opened b .state; written = [] })
+readingOf b = readOn (record { state = O.opened b .state; numbers = [] })
 
 -- ---- what the rules say
 -- the pieces that are taken: "a portion needs twice its length in output numbers", and one without room is no part of the body

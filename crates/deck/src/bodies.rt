@@ -3,7 +3,7 @@ ghost use mathlib.Core.Path.{_≡_};
 ghost use lib.ListN.{length};
 ghost use Rattle.runs.specs.Runs.{over};
 ghost use Rattle.body.specs.Open.{opened};
-ghost use Rattle.stream.specs.Calls.{portion, written};
+ghost use Rattle.stream.specs.Calls.{portion, portionWrote};
 ghost use Rattle.body.specs.Ends.{blockEnd, close};
 ghost use Rattle.deck.specs.Bodies.{flatOpened, flatAnswer, flatGave, flatClosing, itbKnown, itbBit, windowKnown, windowAt};
 use crate::unrefused;
@@ -82,7 +82,7 @@ fn gave(g: Gave) -> SegdGave
 #[no_mangle]
 pub extern "C" fn segd_portion(state: State, bytes: &[u8], out: &mut [i32]) -> SegdGave
     ensures { λ r. ⌜ r ≡ flatGave (portion state (now (bytes .entry)) (length (now (out .entry)))) ⌝ }
-    ensures { λ r. ⌜ now (out .exit) ≡ over (written state (now (bytes .entry)) (length (now (out .entry)))) (now (out .entry)) ⌝ }
+    ensures { λ r. ⌜ now (out .exit) ≡ over (portionWrote state (now (bytes .entry)) (length (now (out .entry)))) (now (out .entry)) ⌝ }
 {
     gave(stream::portion(state, bytes, out))
 }

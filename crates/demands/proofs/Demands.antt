@@ -49,7 +49,7 @@ use Rattle.rules.specs.Outcome.{doneOf}
 use Rattle.rules.proofs.Laws.{stop-first}
 use Rattle.scan.specs.declared.State.{State}
 use Rattle.scan.specs.Fit.{fitb}
-use Rattle.stream.specs.Calls.{portion, taken as takenPortion, written, kept, lacksRoom}
+use Rattle.stream.specs.Calls.{portion, fitPortion, portionWrote, fitWrote, lacksRoom}
 use Rattle.body.specs.Ends.{blockEnd, close}
 use Rattle.agree.proofs.Agreement.{agreement, turned-away}
 use Rattle.framing.proofs.Framed.{framed}
@@ -71,14 +71,14 @@ use Rattle.demands.proofs.Figures.{all-figures}
 
 -- ---- 1
 unmoved : (s : State) → fitb s ≡ false → Unmoved s
-unfolding portion written blockEnd close pick
-unmoved s f = record { portions = λ bs room. rw f; written = λ bs room. rw f; blockEnds = rw f; closes = rw f }
+unfolding portion portionWrote blockEnd close pick
+unmoved s f = record { portions = λ bs room. rw f; writes = λ bs room. rw f; blockEnds = rw f; closes = rw f }
 
 no-room : (s : State) (bs : List ℕ) (room : ℕ) → fitb s ≡ true → s .stop ≡ 0 → lacksRoom room (length bs) ≡ true → NoTrace s bs room
-unfolding portion takenPortion written kept pick
+unfolding portion fitPortion portionWrote fitWrote pick
 no-room s bs room f z l = record {
   answer = rw (f, eq-eqb (s .stop) 0 z, l);
-  written = rw (f, eq-eqb (s .stop) 0 z, l);
+  writes = rw (f, eq-eqb (s .stop) 0 z, l);
 }
 
 pub demand1 : Demand1

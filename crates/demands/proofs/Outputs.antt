@@ -18,7 +18,7 @@ use Rattle.scan.specs.declared.Stepped.{Stepped}
 use Rattle.scan.specs.Fit.{fitb}
 use Rattle.scan.specs.Step.{after, wrote, step, pair}
 use Rattle.stream.specs.declared.Answer.{Answer}
-use Rattle.stream.specs.Calls.{portion, taken, fed, unchanged, written, kept, answered, lacksRoom}
+use Rattle.stream.specs.Calls.{portion, fitPortion, fed, unchanged, portionWrote, fitWrote, answered, lacksRoom}
 use Rattle.stream.proofs.Cuts.{cut-state, cut-wrote}
 use Rattle.demands.specs.Demand3.{TwoAreOne, samplesIn, Output}
 
@@ -27,8 +27,8 @@ still : (s : State) (bs : List ℕ) (room : ℕ) → fitb s ≡ false → portio
 unfolding portion unchanged pick
 still s bs room f = rw f
 
-nothing : (s : State) (bs : List ℕ) (room : ℕ) → fitb s ≡ false → written s bs room ≡ []
-unfolding written pick
+nothing : (s : State) (bs : List ℕ) (room : ℕ) → fitb s ≡ false → portionWrote s bs room ≡ []
+unfolding portionWrote pick
 nothing s bs room f = rw f
 
 pub two-are-one : (s : State) (a b : List ℕ) (m n k : ℕ) → lacksRoom m (length a) ≡ false → lacksRoom n (length b) ≡ false → lacksRoom k (length (a ++ b)) ≡ false → TwoAreOne s a b m n k
@@ -62,11 +62,11 @@ said : (s : State) (k : ℕ) → samplesIn (answered s k) ≡ k / 2
 unfolding answered
 said s k = pick-both (λ (a : Answer). samplesIn a ≡ k / 2) (eqb (s .stop) 0) refl refl
 
-counts : (s : State) (bs : List ℕ) (room : ℕ) → length (written s bs room) ≡ 2 * samplesIn (portion s bs room .answer)
-unfolding portion taken fed unchanged written kept pick
+counts : (s : State) (bs : List ℕ) (room : ℕ) → length (portionWrote s bs room) ≡ 2 * samplesIn (portion s bs room .answer)
+unfolding portion fitPortion fed unchanged portionWrote fitWrote pick
 counts s bs room = go (fitb s) (eqb (s .stop) 0) (ltb room (2 * length bs)) refl refl refl
   where
-    go : (f z l : Bool) → fitb s ≡ f → eqb (s .stop) 0 ≡ z → ltb room (2 * length bs) ≡ l → length (written s bs room) ≡ 2 * samplesIn (portion s bs room .answer)
+    go : (f z l : Bool) → fitb s ≡ f → eqb (s .stop) 0 ≡ z → ltb room (2 * length bs) ≡ l → length (portionWrote s bs room) ≡ 2 * samplesIn (portion s bs room .answer)
     go false z l f e h = rw f
     go true false l f e h = rw (f, e, said s 0)
     go true true true f e h = rw (f, e, h)
@@ -83,6 +83,6 @@ back w out k e = rw (drop-at w (drop (length w) out) k e, e)
 
 pub output : (s : State) (bs : List ℕ) (out : List ℤ) → Output s bs out
 output s bs out = record {
-  front = front (written s bs (length out)) out _ (counts s bs (length out));
-  rest = back (written s bs (length out)) out _ (counts s bs (length out));
+  front = front (portionWrote s bs (length out)) out _ (counts s bs (length out));
+  rest = back (portionWrote s bs (length out)) out _ (counts s bs (length out));
 }

@@ -18,7 +18,7 @@ use Rattle.scan.specs.Fit.{fitb}
 use Rattle.scan.specs.Step.{after, wrote, halted}
 use Rattle.stream.specs.declared.Gave.{Gave}
 use Rattle.stream.specs.declared.Answer.the-variants.{GoingOn, Stopped}
-use Rattle.stream.specs.Calls.{portion, taken, fed, written, kept, answered, unchanged, stopRefusal}
+use Rattle.stream.specs.Calls.{portion, fitPortion, fed, portionWrote, fitWrote, answered, unchanged, stopRefusal}
 use Rattle.body.specs.Ends.{blockEnd, ended, oneEnd, due, close, finish, refused}
 use Rattle.stream.proofs.Cuts.{portion-fit}
 use Rattle.body.proofs.BlockEnds.{end-fit}
@@ -27,11 +27,11 @@ use Rattle.demands.specs.Demand1.{SameStop, stands}
 
 module _ (s : State) (f : fitb s ≡ true) (n : s .stop ≡ 0 → ⊥) where
   portions : (bs : List ℕ) (room : ℕ) → portion s bs room ≡ stands s (stopRefusal (s .stop) (s .stopat))
-  unfolding portion taken answered pick
+  unfolding portion fitPortion answered pick
   portions bs room = rw (f, ne-eqb (s .stop) 0 n)
 
-  nothing : (bs : List ℕ) (room : ℕ) → written s bs room ≡ []
-  unfolding written kept pick
+  nothing : (bs : List ℕ) (room : ℕ) → portionWrote s bs room ≡ []
+  unfolding portionWrote fitWrote pick
   nothing bs room = rw (f, ne-eqb (s .stop) 0 n)
 
   ends : blockEnd s ≡ stands s (stopRefusal (s .stop) (s .stopat))
@@ -42,13 +42,13 @@ module _ (s : State) (f : fitb s ≡ true) (n : s .stop ≡ 0 → ⊥) where
   unfolding close finish pick
   closes = rw (f, ne-eqb (s .stop) 0 n)
 
-  forever : (w : List ℤ) (cs : List Call) → readOn (record { state = s; written = w }) cs ≡ record { state = s; written = w }
+  forever : (w : List ℤ) (cs : List Call) → readOn (record { state = s; numbers = w }) cs ≡ record { state = s; numbers = w }
   forever w [] = refl
   forever w (put bs room ∷ cs) = rw (portions bs room, nothing bs room, append-nil w) (forever w cs)
   forever w (end ∷ cs) = rw ends (forever w cs)
 
   pub stays : SameStop s (stopRefusal (s .stop) (s .stopat))
-  stays = record { portions = portions; written = nothing; blockEnds = ends; closes = closes; forever = forever }
+  stays = record { portions = portions; writes = nothing; blockEnds = ends; closes = closes; forever = forever }
 
 -- what an answer that stops says is what the state then keeps
 abbrev Told : ℕ → Refusal → Gave → Type 0
@@ -69,7 +69,7 @@ unfolding unchanged
 told-off s x n r e = let q : _≡_ {A = ℕ} 0 1 = cc in absurd (omega arith)
 
 portion-told : (s : State) (bs : List ℕ) (room n : ℕ) (r : Refusal) → Told n r (portion s bs room)
-unfolding portion taken fed
+unfolding portion fitPortion fed
 portion-told s bs room n r =
     pick-both (Told n r) _ (pick-both (Told n r) _ (pick-both (Told n r) _ (told-off s refusal.Room n r) (told-on (after s bs) (length (wrote s bs)) n r)) (told-on s 0 n r))
     (told-off s refusal.State n r)
@@ -95,7 +95,7 @@ pub stays-after-portion : (s : State) (bs : List ℕ) (room n : ℕ) (r : Refusa
 unfolding portion
 stays-after-portion s bs room n r e =
     let g = portion-told s bs room n r e in
-    rw (g .1) (stays (portion s bs room .state) (portion-fit s bs room (fit-given s (taken s bs room) n r (fitb s) refl e)) (g .0))
+    rw (g .1) (stays (portion s bs room .state) (portion-fit s bs room (fit-given s (fitPortion s bs room) n r (fitb s) refl e)) (g .0))
 
 pub stays-after-end : (s : State) (n : ℕ) (r : Refusal) → blockEnd s .answer ≡ Stopped n r → SameStop (blockEnd s .state) r
 unfolding blockEnd

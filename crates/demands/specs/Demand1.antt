@@ -33,22 +33,22 @@ stands s r = record { state = s; answer = Stopped 0 r }
 -- "writes nothing further, and gives the same refusal from then on": from every later call, whatever it is lent, however many there are
 pub record SameStop (s : State) (r : Refusal) : Type 0 where
   pub portions : (bs : List ℕ) (room : ℕ) → calls.portion s bs room ≡ stands s r
-  pub written : (bs : List ℕ) (room : ℕ) → calls.written s bs room ≡ []
+  pub writes : (bs : List ℕ) (room : ℕ) → calls.portionWrote s bs room ≡ []
   pub blockEnds : ends.blockEnd s ≡ stands s r
   pub closes : ends.close s ≡ ends.refused r
-  pub forever : (w : List ℤ) (cs : List Call) → readOn (record { state = s; written = w }) cs ≡ record { state = s; written = w }
+  pub forever : (w : List ℤ) (cs : List Call) → readOn (record { state = s; numbers = w }) cs ≡ record { state = s; numbers = w }
 
 -- "13 and 23 change nothing and stop nothing": 23, whatever the call
 pub record Unmoved (s : State) : Type 0 where
   pub portions : (bs : List ℕ) (room : ℕ) → calls.portion s bs room ≡ calls.unchanged s refusal.State
-  pub written : (bs : List ℕ) (room : ℕ) → calls.written s bs room ≡ []
+  pub writes : (bs : List ℕ) (room : ℕ) → calls.portionWrote s bs room ≡ []
   pub blockEnds : ends.blockEnd s ≡ calls.unchanged s refusal.State
   pub closes : ends.close s ≡ ends.refused refusal.State
 
 -- "13 and 23 change nothing and stop nothing": 13, a portion that the output has no room for, leaves no trace
 pub record NoTrace (s : State) (bs : List ℕ) (room : ℕ) : Type 0 where
   pub answer : calls.portion s bs room ≡ calls.unchanged s refusal.Room
-  pub written : calls.written s bs room ≡ []
+  pub writes : calls.portionWrote s bs room ≡ []
 
 pub record Demand1 : Type 2 where
   -- "the contract leaves one possible answer and one possible content of each lent slice", refusals included

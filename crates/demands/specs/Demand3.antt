@@ -29,7 +29,7 @@ Enough bs room = calls.lacksRoom room (length bs) ≡ false
 -- samples of the one portion that they make, lent k
 pub record TwoAreOne (s : State) (a b : List ℕ) (m n k : ℕ) : Type 0 where
   pub state : calls.portion (calls.portion s a m .state) b n .state ≡ calls.portion s (a ++ b) k .state
-  pub samples : calls.written s a m ++ calls.written (calls.portion s a m .state) b n ≡ calls.written s (a ++ b) k
+  pub samples : calls.portionWrote s a m ++ calls.portionWrote (calls.portion s a m .state) b n ≡ calls.portionWrote s (a ++ b) k
 
 -- how many samples an answer says were written
 abbrev pub samplesIn : Answer → ℕ
@@ -42,12 +42,12 @@ abbrev numbersTold : State → List ℕ → List ℤ → ℕ
 numbersTold s bs out = 2 * samplesIn (calls.portion s bs (length out) .answer)
 
 abbrev pub outputOf : State → List ℕ → List ℤ → List ℤ
-outputOf s bs out = over (calls.written s bs (length out)) out
+outputOf s bs out = over (calls.portionWrote s bs (length out)) out
 
 -- "A portion answers how many samples it wrote": as many are at the front of the caller's output, and "Output past the samples written
 -- is untouched"
 pub record Output (s : State) (bs : List ℕ) (out : List ℤ) : Type 0 where
-  pub front : take (numbersTold s bs out) (outputOf s bs out) ≡ calls.written s bs (length out)
+  pub front : take (numbersTold s bs out) (outputOf s bs out) ≡ calls.portionWrote s bs (length out)
   pub rest : drop (numbersTold s bs out) (outputOf s bs out) ≡ drop (numbersTold s bs out) out
 
 -- "each sample gives M then X": the numbers of a body are two for each sample before its stop, those of sample n at 2 n. Sample k of

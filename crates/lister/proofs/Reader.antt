@@ -24,7 +24,7 @@ use Rattle.runs.specs.Runs.{over}
 use Rattle.rules.specs.Tape.{Body}
 use Rattle.rules.specs.Scans.{shapeOf}
 use Rattle.rules.specs.Outcome.{closing}
-use Rattle.stream.specs.Calls.{portion, written, kept}
+use Rattle.stream.specs.Calls.{portion, portionWrote, fitWrote}
 use Rattle.body.specs.Ends.{blockEnd, close}
 use Rattle.body.specs.Open.{opened}
 use Rattle.stream.proofs.Cuts.{portion-state, portion-fit}
@@ -52,9 +52,9 @@ unfolding over
 over-length w out h = simp (length-append, length-drop) (omega arith)
 
 -- what a portion writes is within the output
-written-few : (s : State) (bs : List ℕ) (room : ℕ) → length (written s bs room) ≤ room
-unfolding written kept
-written-few s bs room =
+wrote-few : (s : State) (bs : List ℕ) (room : ℕ) → length (portionWrote s bs room) ≤ room
+unfolding portionWrote fitWrote
+wrote-few s bs room =
     pick-cases P (fitb s)
     (λ f. pick-cases P (eqb (s .stop) 0)
     (λ e. pick-cases P (ltb room (2 * length bs)) (λ l. omega arith) (λ l. let h : 2 * length bs ≤ room = ltb-false room (2 * length bs) l in omega (arith, wrote-length s bs)))
@@ -64,8 +64,8 @@ written-few s bs room =
     P : List ℤ → Type 0
     P l = length l ≤ room
 
-pub numbers-length : (s : State) (bs : List ℕ) (out : List ℤ) → length (over (written s bs (length out)) out) ≡ length out
-numbers-length s bs out = over-length (written s bs (length out)) out (written-few s bs (length out))
+pub numbers-length : (s : State) (bs : List ℕ) (out : List ℤ) → length (over (portionWrote s bs (length out)) out) ≡ length out
+numbers-length s bs out = over-length (portionWrote s bs (length out)) out (wrote-few s bs (length out))
 
 -- ---- whole blocks
 -- the state after some
@@ -89,11 +89,11 @@ calls-spell (x ∷ xs) =
     let later = calls-spell xs in
     rw (le-ltb (2 * length x) (2 * length x) (omega arith), later, append-nil x)
 
-calls-reach : (s : State) (w : List ℤ) (xs : List (List ℕ)) → fitb s ≡ true → readOn (record { state = s; written = w }) (callsOf xs) .state ≡ stateAfter s xs
+calls-reach : (s : State) (w : List ℤ) (xs : List (List ℕ)) → fitb s ≡ true → readOn (record { state = s; numbers = w }) (callsOf xs) .state ≡ stateAfter s xs
 calls-reach s w [] f = refl
 calls-reach s w (x ∷ xs) f =
     let room : 2 * length x ≤ 2 * length x = omega arith in
-    calls-reach (blockEnd (portion s x (2 * length x) .state) .state) (w ++ written s x (2 * length x)) xs (end-fit _ (portion-fit s x (2 * length x) f))
+    calls-reach (blockEnd (portion s x (2 * length x) .state) .state) (w ++ portionWrote s x (2 * length x)) xs (end-fit _ (portion-fit s x (2 * length x) f))
     ∙ ap (λ (t : State). stateAfter (blockEnd t .state) xs) (portion-state s x (2 * length x) room f)
 
 -- the closing answer after some blocks of an accepted header's body

@@ -13,7 +13,7 @@ use Rattle.header.specs.Answers.{headerAnswer}
 use Rattle.scan.specs.declared.State.{State}
 use Rattle.runs.specs.Runs.{over}
 use Rattle.body.specs.Open.{opened}
-use Rattle.stream.specs.Calls.{portion, written}
+use Rattle.stream.specs.Calls.{portion, portionWrote}
 use Rattle.body.specs.Ends.{blockEnd, close}
 use Rattle.body.specs.declared.Closed.{Closed}
 use Rattle.body.specs.declared.Closed.the-variants as C
@@ -52,7 +52,7 @@ numbersAfter Empty bytes numbers = numbers
 numbersAfter (Heading got) bytes numbers = numbers
 numbersAfter Large bytes numbers = numbers
 numbersAfter (Refused r) bytes numbers = numbers
-numbersAfter (Blocks file format s) bytes numbers = over (written s bytes (length numbers)) numbers
+numbersAfter (Blocks file format s) bytes numbers = over (portionWrote s bytes (length numbers)) numbers
 
 -- after the header item
 abbrev pub headedBy : Answer → List ℕ → File

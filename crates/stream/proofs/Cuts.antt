@@ -19,7 +19,7 @@ use Rattle.scan.proofs.Shapes.{fit-of, of-fit}
 use Rattle.scan.proofs.Keep.{fit-after}
 use Rattle.scan.proofs.Fold.{after-append, wrote-append, after-stopped, wrote-stopped}
 use Rattle.stream.specs.declared.Gave.{Gave}
-use Rattle.stream.specs.Calls.{portion, taken, kept, fed, written, unchanged, lacksRoom}
+use Rattle.stream.specs.Calls.{portion, fitPortion, fitWrote, fed, portionWrote, unchanged, lacksRoom}
 
 -- the code halves the room, so that nothing can wrap
 pub room-short : (room n : ℕ) → room / 2 < n → lacksRoom room n ≡ true
@@ -30,23 +30,23 @@ room-enough room n h = le-ltb room (2 * n) (omega (arith, h))
 
 -- a portion with room enough, from a fit state, is the fold over its bytes
 module _ (s : State) (bs : List ℕ) (room : ℕ) (r : 2 * length bs ≤ room) where
-  taken-state : taken s bs room .state ≡ after s bs
-  unfolding taken fed pick
-  taken-state =
+  fit-state : fitPortion s bs room .state ≡ after s bs
+  unfolding fitPortion fed pick
+  fit-state =
       pick-cases (λ (g : Gave). g .state ≡ after s bs) (eqb (s .stop) 0) (λ e. rw (le-ltb room (2 * length bs) r)) (λ e. sym (after-stopped s bs e))
 
-  kept-wrote : kept s bs room ≡ wrote s bs
-  unfolding kept pick
-  kept-wrote =
+  fit-wrote : fitWrote s bs room ≡ wrote s bs
+  unfolding fitWrote pick
+  fit-wrote =
       pick-cases (λ (l : List ℤ). l ≡ wrote s bs) (eqb (s .stop) 0) (λ e. rw (le-ltb room (2 * length bs) r)) (λ e. sym (wrote-stopped s bs e))
 
   pub portion-state : fitb s ≡ true → portion s bs room .state ≡ after s bs
   unfolding portion pick
-  portion-state f = rw f taken-state
+  portion-state f = rw f fit-state
 
-  pub portion-wrote : fitb s ≡ true → written s bs room ≡ wrote s bs
-  unfolding written pick
-  portion-wrote f = rw f kept-wrote
+  pub portion-wrote : fitb s ≡ true → portionWrote s bs room ≡ wrote s bs
+  unfolding portionWrote pick
+  portion-wrote f = rw f fit-wrote
 
 -- two portions are one
 module _ (s : State) (a b : List ℕ) (f : fitb s ≡ true) (ra rb r : ℕ) (ha : 2 * length a ≤ ra) (hb : 2 * length b ≤ rb) (h : 2 * length (a ++ b) ≤ r) where
@@ -56,12 +56,12 @@ module _ (s : State) (a b : List ℕ) (f : fitb s ≡ true) (ra rb r : ℕ) (ha 
   pub cut-state : portion (portion s a ra .state) b rb .state ≡ portion s (a ++ b) r .state
   cut-state = rw (portion-state (portion s a ra .state) b rb hb fit-first, portion-state s a ra ha f, portion-state s (a ++ b) r h f, after-append s a b)
 
-  pub cut-wrote : written s a ra ++ written (portion s a ra .state) b rb ≡ written s (a ++ b) r
+  pub cut-wrote : portionWrote s a ra ++ portionWrote (portion s a ra .state) b rb ≡ portionWrote s (a ++ b) r
   cut-wrote = rw (portion-wrote (portion s a ra .state) b rb hb fit-first, portion-wrote s a ra ha f, portion-state s a ra ha f, portion-wrote s (a ++ b) r h f, wrote-append s a b)
 
 -- what a portion gives back of a fit state is fit, whatever it answers
 pub portion-fit : (s : State) (bs : List ℕ) (room : ℕ) → fitb s ≡ true → fitb (portion s bs room .state) ≡ true
-unfolding portion taken fed unchanged
+unfolding portion fitPortion fed unchanged
 portion-fit s bs room f =
     let P : Gave → Type 0 = λ g. fitb (g .state) ≡ true in
     pick-both P _ (pick-both P _ (pick-both P _ f (of-fit (after s bs) (fit-after s bs (fit-of s f)))) f) f

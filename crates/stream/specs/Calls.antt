@@ -41,20 +41,20 @@ abbrev pub lacksRoom : ℕ → ℕ → Bool
 lacksRoom room bytes = ltb room (2 * bytes)
 
 -- of a fit state: an earlier stop; ROOM, where fewer numbers than twice the bytes are lent
-unfoldable pub taken : State → List ℕ → ℕ → Gave
-taken s bs room =
+unfoldable pub fitPortion : State → List ℕ → ℕ → Gave
+fitPortion s bs room =
     pick (eqb (s .stop) 0)
     (pick (lacksRoom room (length bs)) (unchanged s R.Room) (fed s bs))
     (record { state = s; answer = answered s 0 })
 
 -- STATE comes first
 unfoldable pub portion : State → List ℕ → ℕ → Gave
-portion s bs room = pick (fitb s) (taken s bs room) (unchanged s R.State)
+portion s bs room = pick (fitb s) (fitPortion s bs room) (unchanged s R.State)
 
 -- the numbers that a portion writes from a fit state
-unfoldable pub kept : State → List ℕ → ℕ → List ℤ
-kept s bs room = pick (eqb (s .stop) 0) (pick (lacksRoom room (length bs)) [] (wrote s bs)) []
+unfoldable pub fitWrote : State → List ℕ → ℕ → List ℤ
+fitWrote s bs room = pick (eqb (s .stop) 0) (pick (lacksRoom room (length bs)) [] (wrote s bs)) []
 
 -- the numbers that a portion writes: none from an unfit state
-unfoldable pub written : State → List ℕ → ℕ → List ℤ
-written s bs room = pick (fitb s) (kept s bs room) []
+unfoldable pub portionWrote : State → List ℕ → ℕ → List ℤ
+portionWrote s bs room = pick (fitb s) (fitWrote s bs room) []

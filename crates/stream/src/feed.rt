@@ -77,10 +77,10 @@ fn feed(s: State, bytes: &[u8], out: &mut [i32]) -> Gave
 }
 
 // An earlier stop, then ROOM.
-pub(crate) fn take(s: State, bytes: &[u8], out: &mut [i32]) -> Gave
+pub(crate) fn fit_portion(s: State, bytes: &[u8], out: &mut [i32]) -> Gave
     requires { ⌜ Fit s ⌝ }
-    ensures { λ r. ⌜ r ≡ Calls.taken s (now (bytes .entry)) (length (now (out .entry))) ⌝ }
-    ensures { λ r. ⌜ now (out .exit) ≡ over (Calls.kept s (now (bytes .entry)) (length (now (out .entry)))) (now (out .entry)) ⌝ }
+    ensures { λ r. ⌜ r ≡ Calls.fitPortion s (now (bytes .entry)) (length (now (out .entry))) ⌝ }
+    ensures { λ r. ⌜ now (out .exit) ≡ over (Calls.fitWrote s (now (bytes .entry)) (length (now (out .entry)))) (now (out .entry)) ⌝ }
 {
     if s.stop != 0 {
         let a = answered(s, 0);

@@ -54,10 +54,10 @@ pub fn stop_refusal(number: u32, place: u32) -> Refusal
 // A portion of the body's bytes. Each sample that it completes goes to `out`, M and then X.
 pub fn portion(s: State, bytes: &[u8], out: &mut [i32]) -> Gave
     ensures { λ r. ⌜ r ≡ Calls.portion s (now (bytes .entry)) (length (now (out .entry))) ⌝ }
-    ensures { λ r. ⌜ now (out .exit) ≡ over (Calls.written s (now (bytes .entry)) (length (now (out .entry)))) (now (out .entry)) ⌝ }
+    ensures { λ r. ⌜ now (out .exit) ≡ over (Calls.portionWrote s (now (bytes .entry)) (length (now (out .entry)))) (now (out .entry)) ⌝ }
 {
     if scan::fit(s) {
-        feed::take(s, bytes, out)
+        feed::fit_portion(s, bytes, out)
     } else {
         Gave {
             state: s,

@@ -1,24 +1,24 @@
--- `stream::feed::take` meets its contract.
+-- `stream::feed::fit_portion` meets its contract.
 -- Assumes nothing.
 use Rattle.runs.specs.Runs.{over}
 use native.Mathlib.Omega.{arith}
-use Rattle.stream.specs.Calls.{taken, kept, unchanged}
+use Rattle.stream.specs.Calls.{fitPortion, fitWrote, unchanged}
 use Rattle.stream.proofs.Cuts.{room-short, room-enough}
 use Rattle.basis.specs.Choice.{pick}
 use Rattle.basis.proofs.Rules.{tests}
 use borrow.Author.Needs.{needs}
-use Rattle.stream.proofs.feed.take.Statement.{statement}
-use Rattle.stream.proofs.feed.take.Tie as tie
+use Rattle.stream.proofs.feed.fit_portion.Statement.{statement}
+use Rattle.stream.proofs.feed.fit_portion.Tie as tie
 
 answered-requires : tie.Need-answered-requires
 answered-requires c κs = search needs
 
 returns : tie.Need-returns
-unfolding taken kept unchanged over pick
+unfolding fitPortion fitWrote unchanged over pick
 returns c = search (tests, c .before .if1 .taken, c .answered .ensures)
 
 returns-2 : tie.Need-returns-2
-unfolding taken kept unchanged over pick
+unfolding fitPortion fitWrote unchanged over pick
 returns-2 c = search (tests, room-short _ _ (c .if2 .taken), c .before .if1 .left)
 
 feed-requires : tie.Need-feed-requires
@@ -28,9 +28,9 @@ same-length : tie.Need-same-length
 same-length c = search needs
 
 returns-3 : tie.Need-returns-3
-unfolding taken kept unchanged over pick
+unfolding fitPortion fitWrote unchanged over pick
 returns-3 c = search (tests, room-enough _ _ (c .before .before .before .if2 .left), c .before .before .before .before .if1 .left, c .before .feed .ensures)
 
-pub take-spec : {M : Type 1} → statement M
-take-spec =
+pub fit-portion-spec : {M : Type 1} → statement M
+fit-portion-spec =
     tie.close (tie.spec answered-requires returns returns-2 feed-requires same-length returns-3)
