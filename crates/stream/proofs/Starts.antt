@@ -138,7 +138,7 @@ module _ (s : State) (bs : List ℕ) (i : ℕ) (a : Sound s bs i) (l : (j : ℕ)
 
   from-time : Goes (seventh s bs i) (take 1 (drop (i + 7) bs)) done
   unfolding seventh into
-  from-time = next 7 0 (seventh s bs i) done done (omega arith) (at-time (seventh s bs i) (byteIn bs (i + 7)) (a .stop) (omega (arith, a .room)) (spot 7 (omega arith)) (r .timing)) (goes-none done)
+  from-time = next 7 0 (seventh s bs i) done done (omega arith) (at-time (seventh s bs i) (byteIn bs (i + 7)) (a .stop) (omega (arith, a .long)) (spot 7 (omega arith)) (r .timing)) (goes-none done)
 
   -- a quiet byte goes on to the next place
   quietly : (j n held : ℕ) (t : Track) (v : State) → j < 8 → step (into s j t held) (byteIn bs (i + j)) ≡ quiet (into s j t held) (byteIn bs (i + j)) → Goes (into s (suc j) t (shift held (byteIn bs (i + j)))) (take n (drop (i + suc j) bs)) v → Goes (into s j t held) (take (suc n) (drop (i + j) bs)) v
@@ -147,15 +147,15 @@ module _ (s : State) (bs : List ℕ) (i : ℕ) (a : Sound s bs i) (l : (j : ℕ)
 
   among : (j held : ℕ) (t : Track) → 3 < j → j < 7 → step (into s j t held) (byteIn bs (i + j)) ≡ quiet (into s j t held) (byteIn bs (i + j))
   unfolding into
-  among j held t lo hi = at-quiet (into s j t held) (byteIn bs (i + j)) (a .stop) (omega (arith, a .room)) j (spot j (omega arith)) lo hi
+  among j held t lo hi = at-quiet (into s j t held) (byteIn bs (i + j)) (a .stop) (omega (arith, a .long)) j (spot j (omega arith)) lo hi
 
   in-sync : (j held : ℕ) → 0 < j → j < 3 → byteIn bs (i + j) ≡ 255 → step (into s j (s .track) held) (byteIn bs (i + j)) ≡ quiet (into s j (s .track) held) (byteIn bs (i + j))
   unfolding into
-  in-sync j held lo hi e = at-sync (into s j (s .track) held) (byteIn bs (i + j)) (a .stop) (omega (arith, a .room)) j (spot j (omega arith)) lo hi e
+  in-sync j held lo hi e = at-sync (into s j (s .track) held) (byteIn bs (i + j)) (a .stop) (omega (arith, a .long)) j (spot j (omega arith)) lo hi e
 
   at-none : (held : ℕ) → step (into s 0 (s .track) held) (byteIn bs (i + 0)) ≡ quiet (into s 0 (s .track) held) (byteIn bs (i + 0))
   unfolding into
-  at-none held = at-first (into s 0 (s .track) held) (byteIn bs (i + 0)) (a .stop) (omega (arith, a .room)) (spot 0 (omega arith)) (rw (add-zero (s .place)) (r .free)) (rw (add-zero i) (r .sync1))
+  at-none held = at-first (into s 0 (s .track) held) (byteIn bs (i + 0)) (a .stop) (omega (arith, a .long)) (spot 0 (omega arith)) (rw (add-zero (s .place)) (r .free)) (rw (add-zero i) (r .sync1))
 
   held-last : (x : ℕ) → shift (shift (shift (shift x (byteIn bs (i + 3))) (byteIn bs (i + 4))) (byteIn bs (i + 5))) (byteIn bs (i + 6)) ≡ written 256 (byteIn bs) (i + 3) 4
   held-last x = rw (add-assoc i 3 1, add-assoc i 3 2, add-assoc i 3 3) at (four-shifts bs l x (i + 3))
@@ -172,7 +172,7 @@ module _ (s : State) (bs : List ℕ) (i : ℕ) (a : Sound s bs i) (l : (j : ℕ)
   unfolding into
   from-phase x =
       next 3 4 (into s 3 (s .track) x) (into s 4 k (shift x (byteIn bs (i + 3)))) done (omega arith)
-      (at-phase (into s 3 (s .track) x) (byteIn bs (i + 3)) (a .stop) (omega (arith, a .room)) (spot 3 (omega arith)) (r .bits) (r .phase) ∙ ap still (into-next s 3 (s .track) k x (byteIn bs (i + 3))))
+      (at-phase (into s 3 (s .track) x) (byteIn bs (i + 3)) (a .stop) (omega (arith, a .long)) (spot 3 (omega arith)) (r .bits) (r .phase) ∙ ap still (into-next s 3 (s .track) k x (byteIn bs (i + 3))))
       (from-quiet x)
 
   from-first : Goes (into s 0 (s .track) (s .held)) (take 8 (drop (i + 0) bs)) done

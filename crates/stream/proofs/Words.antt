@@ -73,7 +73,7 @@ module _ (s : State) (bs : List ℕ) (w : ℕ) (a : Able s w (length bs)) (i : �
 
   run-step : (off held e : ℕ) → step (at s i off held e) (getD bs i 0) ≡ word (at s i off held e) (getD bs i 0) (s .place % s .shape .scan + i)
   unfolding at
-  run-step off held e = step-word _ _ _ (a .stop) (omega (arith, a .room)) (mod-on (s .place) i (s .shape .scan) (omega (arith, a .high))) (omega (arith, a .low))
+  run-step off held e = step-word _ _ _ (a .stop) (omega (arith, a .long)) (mod-on (s .place) i (s .shape .scan) (omega (arith, a .high))) (omega (arith, a .low))
 
   quiet-next : (off held e : ℕ) → quiet (at s i off held e) (getD bs i 0) ≡ still (at s (suc i) off (shift held (getD bs i 0)) e)
   unfolding quiet at

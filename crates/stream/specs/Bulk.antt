@@ -37,7 +37,7 @@ pub record Able (s : State) (w len : ℕ) : Type 0 where
   pub group : groupOf (s .shape .code) ≡ w
   pub low : 8 ≤ s .place % s .shape .scan
   pub high : s .place % s .shape .scan + len ≤ s .shape .scan
-  pub room : s .place + len ≤ 4294967295
+  pub long : s .place + len ≤ 4294967295
   pub words : Spread w ((s .place % s .shape .scan - 8) % w) len
   pub some : 0 < len
 

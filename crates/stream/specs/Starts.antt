@@ -53,7 +53,7 @@ pub record Sound (s : State) (bs : List ℕ) (i : ℕ) : Type 0 where
   pub fit : Fit s
   pub stop : s .stop ≡ 0
   pub first : s .place % s .shape .scan ≡ 0
-  pub room : s .place + 8 ≤ 4294967295
+  pub long : s .place + 8 ≤ 4294967295
   pub whole : i + 8 ≤ length bs
   pub right : soundb s bs i ≡ true
 

@@ -60,7 +60,7 @@ returns-3 c =
             group = refl;
             low = c .before .before .before .before .before .before .if2 .left;
             high = omega (arith, m, a .0, l);
-            room = omega (arith, a .0, l, n, c .before .before .struct-known4 .given);
+            long = omega (arith, a .0, l, n, c .before .before .struct-known4 .given);
             words = rw (z .pre .1, ← c .before .before .before .group-place .ensures) (a .1 h);
             some = h;
           };

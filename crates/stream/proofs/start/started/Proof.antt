@@ -24,7 +24,7 @@ timed-requires c κs = search needs
 
 moved-requires : tie.Need-moved-requires
 unfolding seventh into
-moved-requires c κs = let e = ap (λ (x : State). x .place) (c .before .before .seventh .ensures) in omega (arith, e, c .before .before .before .before .pre .room)
+moved-requires c κs = let e = ap (λ (x : State). x .place) (c .before .before .seventh .ensures) in omega (arith, e, c .before .before .before .before .pre .long)
 
 returns : tie.Need-returns
 returns c =

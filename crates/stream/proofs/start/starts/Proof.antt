@@ -35,7 +35,7 @@ returns-5 c =
       fit = z .pre .0;
       stop = c .before .before .before .before .before .before .if1 .left;
       first = c .before .before .before .before .if2 .left;
-      room = omega (arith, c .before .before .if3 .left);
+      long = omega (arith, c .before .before .if3 .left);
       whole = omega (arith, c .before .if4 .left, z .pre .1);
       right = sym (c .sound .ensures) ∙ e;
     }
