@@ -14,7 +14,7 @@ ghost use Rattle.scan.specs.Step.{wrote};
 ghost use Rattle.stream.specs.Bulk as Bulk;
 
 // The four bytes from k on.
-pub(crate) fn four(bytes: &[u8], k: usize) -> u32
+pub(crate) fn big4(bytes: &[u8], k: usize) -> u32
     requires { ⌜ k + 4 ≤ length (now bytes) ⌝ }
     ensures { λ r. ⌜ r ≡ written 256 (byteIn (now (bytes .entry))) k 4 ⌝ }
 {
@@ -29,7 +29,7 @@ fn last_four(bytes: &[u8]) -> u32
     requires { ⌜ 4 ≤ length (now bytes) ⌝ }
     ensures { λ r. ⌜ r ≡ Bulk.lastFour (now (bytes .entry)) ⌝ }
 {
-    four(bytes, bytes.len() - 4)
+    big4(bytes, bytes.len() - 4)
 }
 
 // The last four bytes, after these.

@@ -3,7 +3,7 @@ use crate::Answer;
 use crate::Gave;
 use crate::byte::step;
 use crate::start::ahead_at;
-use crate::start::take_at;
+use crate::start::chunk_at;
 use crate::stop_refusal;
 use refusals::Refusal;
 use scan::State;
@@ -63,7 +63,7 @@ fn feed(s: State, bytes: &[u8], out: &mut [i32]) -> Gave
                 n += 2;
             }
         } else {
-            let r = take_at(t, w, bytes, i, k, out, n);
+            let r = chunk_at(t, w, bytes, i, k, out, n);
             t = r.state;
             i += k;
             n += r.count;

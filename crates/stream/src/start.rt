@@ -1,7 +1,7 @@
 // A scan's start: its eight bytes at once, where they are all there and none of them stops the body.
 use crate::Chunk;
 use crate::bulk::ahead;
-use crate::bulk::four;
+use crate::bulk::big4;
 use crate::bulk::run_at;
 use crate::byte::full;
 use crate::byte::instep;
@@ -28,7 +28,7 @@ fn seventh(s: State, bytes: &[u8], i: usize) -> State
     let mut t = s;
     t.place = s.place + 7;
     t.track = typed(s.track, bytes[i + 3]);
-    t.held = four(bytes, i + 3);
+    t.held = big4(bytes, i + 3);
     t
 }
 
@@ -99,7 +99,7 @@ pub(crate) fn ahead_at(s: State, w: u32, bytes: &[u8], i: usize) -> usize
 }
 
 // Those k bytes, to n of `out`.
-pub(crate) fn take_at(
+pub(crate) fn chunk_at(
     s: State,
     w: u32,
     bytes: &[u8],

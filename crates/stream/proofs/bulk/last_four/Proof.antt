@@ -5,15 +5,15 @@ use borrow.Author.Needs.{needs}
 use Rattle.stream.proofs.bulk.last_four.Statement.{statement}
 use Rattle.stream.proofs.bulk.last_four.Tie as tie
 
-sub-four : tie.Need-sub-four
-sub-four c = search needs
+sub-big4 : tie.Need-sub-big4
+sub-big4 c = search needs
 
-four-requires : tie.Need-four-requires
-four-requires c κs = search needs
+big4-requires : tie.Need-big4-requires
+big4-requires c κs = search needs
 
 returns : tie.Need-returns
 unfolding lastFour
-returns c = c .four .ensures
+returns c = c .big4 .ensures
 
 pub last-four-spec : {M : Type 1} → statement M
-last-four-spec = tie.close (tie.spec sub-four four-requires returns)
+last-four-spec = tie.close (tie.spec sub-big4 big4-requires returns)

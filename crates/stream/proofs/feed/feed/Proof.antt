@@ -85,8 +85,8 @@ loop-again-2 c =
     let z = a .before .before .before in
     going-quiet (now (z .args .bytes)) (now (z .args .out)) (z .args .s) (b .out) (b .t) (b .n) (b .i) (c .before .before .step .result) (b .inv) (c .before .before .before .before .before .before .loop-test .taken) (c .before .before .step .ensures) (c .if2 .left)
 
-take-at-requires : tie.Need-take-at-requires Inv-loop μ-loop
-take-at-requires c κs =
+chunk-at-requires : tie.Need-chunk-at-requires Inv-loop μ-loop
+chunk-at-requires c κs =
     let a = c .before .before .before .before in
     let b = a .loop in
     let g = a .before in
@@ -109,8 +109,8 @@ add-n-2 c =
     let b = a .loop in
     let z = a .before .before .before in
     let h = c .before .before .before .before .before .before .ahead-at .ensures in
-    let r = c .before .before .before .take-at .ensures .0 in
-    let l = chunk-length (b .t) (now (z .args .bytes)) (b .i) (c .before .before .before .before .before .before .ahead-at .result) (c .before .before .before .take-at .result) r in
+    let r = c .before .before .before .chunk-at .ensures .0 in
+    let l = chunk-length (b .t) (now (z .args .bytes)) (b .i) (c .before .before .before .before .before .before .ahead-at .result) (c .before .before .before .chunk-at .result) r in
     omega (arith, l, h .within, b .inv, z .pre .1, z .good, c .before .before .before .before .before .before .before .loop-test .taken)
 
 loop-less-3 : tie.Need-loop-less-3 Inv-loop μ-loop
@@ -129,7 +129,7 @@ loop-again-3 c =
     let b = a .loop in
     let z = a .before .before .before in
     let h = c .before .before .before .before .before .before .ahead-at .ensures in
-    let r = c .before .before .before .take-at .ensures in
+    let r = c .before .before .before .chunk-at .ensures in
     going-chunk (now (z .args .bytes)) (now (z .args .out)) (z .args .s) (b .out) (b .t) (b .n) (b .i) _ (b .inv) (z .pre .1) (omega (arith, h .within, c .before .before .before .before .before .before .before .loop-test .taken)) _ _ _ (ap (λ (x : Chunk). x .state) (r .0)) (ap (λ (x : Chunk). x .count) (r .0)) (r .1)
 
 answered-requires : tie.Need-answered-requires Inv-loop μ-loop
@@ -167,7 +167,7 @@ feed-spec =
     loop-again
     loop-less-2
     loop-again-2
-    take-at-requires
+    chunk-at-requires
     add-i-2
     add-n-2
     loop-less-3

@@ -17,15 +17,15 @@ shared-slice-read-typed c = search needs
 typed-requires : tie.Need-typed-requires
 typed-requires c κs = search needs
 
-add-four : tie.Need-add-four
-add-four c = search needs
+add-big4 : tie.Need-add-big4
+add-big4 c = search needs
 
-four-requires : tie.Need-four-requires
-four-requires c κs = search needs
+big4-requires : tie.Need-big4-requires
+big4-requires c κs = search needs
 
 returns : tie.Need-returns
 unfolding seventh into
-returns c = rw (c .four .ensures, c .before .typed .ensures)
+returns c = rw (c .big4 .ensures, c .before .typed .ensures)
 
 pub seventh-spec : {M : Type 1} → statement M
 seventh-spec =
@@ -35,6 +35,6 @@ seventh-spec =
     add-typed
     shared-slice-read-typed
     typed-requires
-    add-four
-    four-requires
+    add-big4
+    big4-requires
     returns)

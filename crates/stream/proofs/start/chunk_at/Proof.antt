@@ -1,11 +1,11 @@
--- `stream::start::take_at` meets its contract.
+-- `stream::start::chunk_at` meets its contract.
 -- Assumes nothing.
 use native.Mathlib.Omega.{arith}
 use denote.Ref.{now}
 use Rattle.stream.proofs.Starts.{start-chunk, start-out}
 use borrow.Author.Needs.{needs}
-use Rattle.stream.proofs.start.take_at.Statement.{statement}
-use Rattle.stream.proofs.start.take_at.Tie as tie
+use Rattle.stream.proofs.start.chunk_at.Statement.{statement}
+use Rattle.stream.proofs.start.chunk_at.Tie as tie
 
 rem-if1 : tie.Need-rem-if1
 rem-if1 c = search needs
@@ -28,6 +28,6 @@ same-length c = search needs
 returns-2 : tie.Need-returns-2
 returns-2 c = search needs
 
-pub take-at-spec : {M : Type 1} → statement M
-take-at-spec =
+pub chunk-at-spec : {M : Type 1} → statement M
+chunk-at-spec =
     tie.close (tie.spec rem-if1 started-requires returns run-at-requires same-length returns-2)

@@ -1,11 +1,11 @@
--- `stream::bulk::four` meets its contract.
+-- `stream::bulk::big4` meets its contract.
 -- Assumes nothing.
 use native.Mathlib.Omega.{arith}
 use denote.Ref.{now}
 use Rattle.stream.proofs.Held.{four-shifts}
 use borrow.Author.Needs.{needs}
-use Rattle.stream.proofs.bulk.four.Statement.{statement}
-use Rattle.stream.proofs.bulk.four.Tie as tie
+use Rattle.stream.proofs.bulk.big4.Statement.{statement}
+use Rattle.stream.proofs.bulk.big4.Tie as tie
 
 shared-slice-read-shift : tie.Need-shared-slice-read-shift
 shared-slice-read-shift c = search needs
@@ -46,8 +46,8 @@ returns c =
     rw (c .shift4 .ensures, c .before .before .shift3 .ensures, c .before .before .before .before .shift2 .ensures, c .before .before .before .before .before .before .shift .ensures)
     (four-shifts (now (z .args .bytes)) (λ i. omega (arith, c .before .before .before .before .before .before .before .before .shared-slice-known .given i)) 0 (z .args .k))
 
-pub four-spec : {M : Type 1} → statement M
-four-spec =
+pub big4-spec : {M : Type 1} → statement M
+big4-spec =
     tie.close
     (tie.spec
     shared-slice-read-shift
