@@ -68,7 +68,7 @@ module _ (byte : ℕ → ℕ) (k : Plan) (pos : 0 < width k) (some : 0 < per k) 
 
     goes : (i : ℕ) (t : Track) (e o : ℕ) → t ≡ trackAt byte k j (suc r) → e ≡ exps byte k (suc p) → o ≡ offIn j (suc r)
         → S.moved (form byte k i p) t e o (byte p) ≡ form byte k i (suc p)
-    unfolding S.moved
+    unfolding S.moved S.movedBy
     goes i t e o a b c =
         λ x. record {
           shape = headOf k;

@@ -12,7 +12,7 @@ use Rattle.basis.proofs.Choices.{pick-both}
 use Rattle.scan.specs.declared.State.{State}
 use Rattle.scan.specs.declared.Track.{Track}
 use Rattle.scan.specs.declared.Stepped.{Stepped}
-use Rattle.scan.specs.Step.{still, halted, halt, moved, quiet, sync, start, phase, time, sample, plain, grouped, word, step, after}
+use Rattle.scan.specs.Step.{still, halted, halt, moved, movedBy, quiet, sync, start, phase, time, sample, plain, grouped, word, step, after}
 use Rattle.words.specs.declared.Value.{Value}
 use Rattle.scan.proofs.Choices.{pick-cases}
 use Rattle.header.specs.declared.Header.{Header}
@@ -30,7 +30,7 @@ abbrev On : State → Stepped → Type 0
 On s r = r .state .stop ≡ 0 → (r .state .place ≡ s .place + 1) × (s .stop ≡ 0)
 
 on-moved : (s : State) (k : Track) (e off b : ℕ) → On s (still (moved s k e off b))
-unfolding still moved
+unfolding still moved movedBy
 on-moved s k e off b z = (refl, z)
 
 on-halt : (s : State) (n : ℕ) → 0 < n → On s (halt s n)
@@ -46,7 +46,7 @@ unfolding sync
 on-sync s b = pick-both (On s) _ (on-quiet s b) (on-halt s 16 (omega arith))
 
 on-sample : (s : State) (w : Value) (b : ℕ) → On s (sample s w b)
-unfolding sample moved
+unfolding sample moved movedBy
 on-sample s w b z = (refl, z)
 
 on-word : (s : State) (b q : ℕ) → On s (word s b q)

@@ -17,7 +17,7 @@ use Rattle.scan.specs.declared.Track.{Track}
 use Rattle.scan.specs.declared.State.{State}
 use Rattle.scan.specs.declared.Stepped.{Stepped}
 use Rattle.scan.specs.Fit.{Fit, stopb}
-use Rattle.scan.specs.Step.{step, after, still, halt, halted, moved, quiet, sync, start, typed, seen, phased, phase, timed, time, low, sample, plain, grouped, word}
+use Rattle.scan.specs.Step.{step, after, still, halt, halted, moved, movedBy, quiet, sync, start, typed, seen, phased, phase, timed, time, low, sample, plain, grouped, word}
 use Rattle.scan.proofs.Choices.{pick-cases}
 
 -- the steps
@@ -51,7 +51,7 @@ unfolding halt
 fit-halt s k f h = fit-still (fit-halted s k f h)
 
 fit-moved : (s : State) (k : Track) (e off b : ℕ) → Fit s → k .seen ≤ s .shape .types → k .itb ≤ 1 → k .twi ≤ 1 → e ≤ 65535 → off ≤ s .place + 1 → Fit (moved s k e off b)
-unfolding moved
+unfolding moved movedBy
 fit-moved s k e off b f ks ki kt he ho =
     record {
       ends = omega arith;
@@ -164,7 +164,7 @@ abbrev Shaped : Shape → Stepped → Type 0
 Shaped h r = r .state .shape ≡ h
 
 shape-quiet : (s : State) (b : ℕ) → Shaped (s .shape) (quiet s b)
-unfolding quiet still moved
+unfolding quiet still moved movedBy
 shape-quiet s b = refl
 
 shape-halt : (s : State) (k : ℕ) → Shaped (s .shape) (halt s k)
@@ -176,11 +176,11 @@ unfolding sync
 shape-sync s b = pick-both (Shaped (s .shape)) _ (shape-quiet s b) (shape-halt s 16)
 
 shape-move : (s : State) (k : Track) (e off b : ℕ) → Shaped (s .shape) (still (moved s k e off b))
-unfolding still moved
+unfolding still moved movedBy
 shape-move s k e off b = refl
 
 shape-sample : (s : State) (w : Value) (b : ℕ) → Shaped (s .shape) (sample s w b)
-unfolding sample moved
+unfolding sample moved movedBy
 shape-sample s w b = refl
 
 shape-word : (s : State) (b q : ℕ) → Shaped (s .shape) (word s b q)

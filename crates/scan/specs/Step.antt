@@ -50,20 +50,24 @@ shift held b = held % 16777216 * 256 + b
 unfoldable pub low : ℕ → ℕ → ℕ
 low held w = held % 256 ^ w
 
--- a state one byte on, with what the scan starts told by then, the exponents and the off-rule words
-unfoldable pub moved : State → Track → ℕ → ℕ → ℕ → State
-moved s k e off b =
+-- a state j bytes on, with what the scan starts told by then, the exponents, the off-rule words and the last four bytes
+unfoldable pub movedBy : State → ℕ → Track → ℕ → ℕ → ℕ → State
+movedBy s j k e off held =
     record {
       shape = s .shape;
-      place = s .place + 1;
+      place = s .place + j;
       ends = s .ends;
       off = off;
       track = k;
-      held = shift (s .held) b;
+      held = held;
       exponents = e;
       stop = s .stop;
       stopat = s .stopat;
     }
+
+-- one byte on
+unfoldable pub moved : State → Track → ℕ → ℕ → ℕ → State
+moved s k e off b = movedBy s 1 k e off (shift (s .held) b)
 
 -- a byte that tells nothing by itself
 unfoldable pub quiet : State → ℕ → Stepped

@@ -5,7 +5,6 @@ use mathlib.Core.Path.{_≡_, refl, ap, _∙_}
 use mathlib.Core.Bool.{Bool, true, false}
 use mathlib.Core.List.{List, [], _∷_}
 use native.Mathlib.Nat.{add-zero, add-suc, add-assoc}
-use native.Mathlib.Numerals.{add-one}
 use native.Mathlib.Omega.{arith}
 use borrow.Author.Tests.{eq-eqb, ne-eqb, le-ltb, lt-ltb, eqb-true}
 use lib.Dec.{eqb}
@@ -17,12 +16,13 @@ use Rattle.basis.specs.Digits.{written, byteIn}
 use Rattle.basis.proofs.Choices.{and-true}
 use Rattle.scan.specs.declared.Track.{Track}
 use Rattle.scan.specs.declared.State.{State}
-use Rattle.scan.specs.Step.{step, still, moved, quiet, sync, start, full, phase, typed, phased, time, timed, instep, shift, after, wrote, pair}
+use Rattle.scan.specs.Step.{step, still, moved, movedBy, quiet, sync, start, full, phase, typed, phased, time, timed, instep, shift, after, wrote, pair}
 use Rattle.runs.specs.Runs.{over}
 use Rattle.stream.specs.declared.Chunk.{Chunk}
 use Rattle.stream.specs.Bulk.{chunk, chunkOut}
-use Rattle.stream.specs.Starts.{into, seventh, synced, soundb, Sound}
+use Rattle.stream.specs.Starts.{seventh, synced, soundb, Sound}
 use Rattle.stream.proofs.Held.{four-shifts}
+use Rattle.stream.proofs.Words.{moved-none, moved-next}
 use Rattle.stream.proofs.Words.{mod-on}
 
 -- ---- bytes that write nothing, and the state after them
@@ -66,13 +66,12 @@ module _ (t : State) (b : ℕ) (hs : t .stop ≡ 0) (hp : t .place < 4294967295)
 
 -- ---- the states among them
 
-into-none : (s : State) → into s 0 (s .track) (s .held) ≡ s
-unfolding into
-into-none s = rw (add-zero (s .place))
+-- j bytes into a scan, with what the starts told by then and the last four bytes
+abbrev into : State → ℕ → Track → ℕ → State
+into s j k held = movedBy s j k (s .exponents) (s .off) held
 
 into-next : (s : State) (j : ℕ) (k k′ : Track) (held b : ℕ) → moved (into s j k held) k′ (s .exponents) (s .off) b ≡ into s (suc j) k′ (shift held b)
-unfolding into moved
-into-next s j k k′ held b = rw (add-assoc (s .place) j 1, add-one)
+into-next s j k k′ held b = moved-next s j k k′ (s .exponents) (s .off) held (s .exponents) (s .off) b
 
 -- ---- what a sound start has
 
@@ -137,24 +136,24 @@ module _ (s : State) (bs : List ℕ) (i : ℕ) (a : Sound s bs i) (l : (j : ℕ)
   done = moved (seventh s bs i) (timed (seventh s bs i .track) (seventh s bs i .held) (byteIn bs (i + 7))) (seventh s bs i .exponents) (seventh s bs i .off) (byteIn bs (i + 7))
 
   from-time : Goes (seventh s bs i) (take 1 (drop (i + 7) bs)) done
-  unfolding seventh into
+  unfolding seventh movedBy
   from-time = next 7 0 (seventh s bs i) done done (omega arith) (at-time (seventh s bs i) (byteIn bs (i + 7)) (a .stop) (omega (arith, a .long)) (spot 7 (omega arith)) (r .timing)) (goes-none done)
 
   -- a quiet byte goes on to the next place
   quietly : (j n held : ℕ) (t : Track) (v : State) → j < 8 → step (into s j t held) (byteIn bs (i + j)) ≡ quiet (into s j t held) (byteIn bs (i + j)) → Goes (into s (suc j) t (shift held (byteIn bs (i + j)))) (take n (drop (i + suc j) bs)) v → Goes (into s j t held) (take (suc n) (drop (i + j) bs)) v
-  unfolding quiet into
+  unfolding quiet movedBy
   quietly j n held t v h e g = next j n (into s j t held) (into s (suc j) t (shift held (byteIn bs (i + j)))) v h (e ∙ ap still (into-next s j t t held (byteIn bs (i + j)))) g
 
   among : (j held : ℕ) (t : Track) → 3 < j → j < 7 → step (into s j t held) (byteIn bs (i + j)) ≡ quiet (into s j t held) (byteIn bs (i + j))
-  unfolding into
+  unfolding movedBy
   among j held t lo hi = at-quiet (into s j t held) (byteIn bs (i + j)) (a .stop) (omega (arith, a .long)) j (spot j (omega arith)) lo hi
 
   in-sync : (j held : ℕ) → 0 < j → j < 3 → byteIn bs (i + j) ≡ 255 → step (into s j (s .track) held) (byteIn bs (i + j)) ≡ quiet (into s j (s .track) held) (byteIn bs (i + j))
-  unfolding into
+  unfolding movedBy
   in-sync j held lo hi e = at-sync (into s j (s .track) held) (byteIn bs (i + j)) (a .stop) (omega (arith, a .long)) j (spot j (omega arith)) lo hi e
 
   at-none : (held : ℕ) → step (into s 0 (s .track) held) (byteIn bs (i + 0)) ≡ quiet (into s 0 (s .track) held) (byteIn bs (i + 0))
-  unfolding into
+  unfolding movedBy
   at-none held = at-first (into s 0 (s .track) held) (byteIn bs (i + 0)) (a .stop) (omega (arith, a .long)) (spot 0 (omega arith)) (rw (add-zero (s .place)) (r .free)) (rw (add-zero i) (r .sync1))
 
   held-last : (x : ℕ) → shift (shift (shift (shift x (byteIn bs (i + 3))) (byteIn bs (i + 4))) (byteIn bs (i + 5))) (byteIn bs (i + 6)) ≡ written 256 (byteIn bs) (i + 3) 4
@@ -169,7 +168,7 @@ module _ (s : State) (bs : List ℕ) (i : ℕ) (a : Sound s bs i) (l : (j : ℕ)
       (rw (held-last x) from-time)))
 
   from-phase : (x : ℕ) → Goes (into s 3 (s .track) x) (take 5 (drop (i + 3) bs)) done
-  unfolding into
+  unfolding movedBy
   from-phase x =
       next 3 4 (into s 3 (s .track) x) (into s 4 k (shift x (byteIn bs (i + 3)))) done (omega arith)
       (at-phase (into s 3 (s .track) x) (byteIn bs (i + 3)) (a .stop) (omega (arith, a .long)) (spot 3 (omega arith)) (r .bits) (r .phase) ∙ ap still (into-next s 3 (s .track) k x (byteIn bs (i + 3))))
@@ -183,7 +182,7 @@ module _ (s : State) (bs : List ℕ) (i : ℕ) (a : Sound s bs i) (l : (j : ℕ)
       (from-phase _)))
 
   pub eight : Goes s (take 8 (drop i bs)) done
-  eight = rw (into-none s, add-zero i) at from-first
+  eight = rw (moved-none s, add-zero i) at from-first
 
   -- as some bytes taken at once, of which nothing is written
   pub start-chunk : (n : ℕ) (t : State) → n ≡ 8 → t ≡ after s (take 8 (drop i bs)) → _≡_ {A = Chunk} (record { state = t; count = 0 }) (chunk s (take n (drop i bs)))

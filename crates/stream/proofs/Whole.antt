@@ -26,7 +26,7 @@ use Rattle.stream.specs.declared.Chunk.{Chunk}
 use Rattle.stream.specs.Bulk.{GroupBytes, Spread, alone, groups, rest, Able, valueIn, wordsOf, lastExponents, ranTo, chunk}
 use Rattle.stream.proofs.Readers.{width-some, width-alone}
 use Rattle.stream.proofs.Turns.{Turn, so-far}
-use Rattle.stream.proofs.Words.{at-start, plainAt, words, plain-turn, exponentsAt, exponents-are, groupedAt, grouped-turn, restAt, pairs, rest-turn}
+use Rattle.stream.proofs.Words.{moved-none, plainAt, words, plain-turn, exponentsAt, exponents-are, groupedAt, grouped-turn, restAt, pairs, rest-turn}
 
 -- what a run from place g of a group on comes to
 pub record Comes (s : State) (w g : ℕ) (bs : List ℕ) (n : ℕ) : Type 0 where
@@ -55,7 +55,7 @@ module _ (s : State) (w g : ℕ) (bs : List ℕ) (room : ℕ) (a : Able s w (len
   unfolding valueIn wordsOf wordsIn pick ranTo lastExponents
   plain-comes np front some few =
       let f = plainValue (s .shape .code) w bs in
-      let start : plainAt s bs w a front np some few l 0 ≡ s = rw (zero-div w, offs-none (plainValue (s .shape .code) w bs) (s .off)) (at-start s) in
+      let start : plainAt s bs w a front np some few l 0 ≡ s = rw (zero-div w, offs-none (plainValue (s .shape .code) w bs) (s .off)) (moved-none s) in
       let n : samplesIn (length bs / w) room ≡ length bs / w = all-fit (length bs / w) room (omega (arith, div-le-self (length bs) w)) in
       record {
         state = rw (ne-eqb w 10 np, n) (all-state s bs (plainAt s bs w a front np some few l) (words s bs w a front np some few l) f (plain-turn s bs w a front np some few l) (zero-div w) start);
@@ -67,7 +67,7 @@ module _ (s : State) (bs : List ℕ) (room : ℕ) (a : Able s 10 (length bs)) (l
   unfolding valueIn wordsOf groupedIn pick ranTo lastExponents
   grouped-comes front even =
       let f = groupedValue (s .shape .code) bs in
-      let start : groupedAt s bs a front l 0 ≡ s = rw (offs-none (groupedValue (s .shape .code) bs) (s .off)) (at-start s) in
+      let start : groupedAt s bs a front l 0 ≡ s = rw (offs-none (groupedValue (s .shape .code) bs) (s .off)) (moved-none s) in
       let n : samplesIn (length bs / 10 * 4 + (length bs % 10 - 2) / 2) room ≡ length bs / 10 * 4 + (length bs % 10 - 2) / 2 = all-fit _ room (omega arith) in
       let last : 10 * ((length bs - 1) / 10) + 2 + (length bs - 10 * ((length bs - 1) / 10) - 2) ≡ length bs = omega (arith, a .some) in
       let first : 10 * ((length bs - 1) / 10) ≡ (length bs - 1) / 10 * 10 = omega arith in
@@ -82,7 +82,7 @@ module _ (s : State) (bs : List ℕ) (room : ℕ) (a : Able s 10 (length bs)) (l
   unfolding valueIn wordsOf wordsIn pick ranTo lastExponents
   rest-comes g place two even inside =
       let f = restValue (s .shape .code) (s .exponents) ((g - 2) / 2) bs in
-      let start : restAt s bs a g place two even inside l 0 ≡ s = rw (offs-none (restValue (s .shape .code) (s .exponents) ((g - 2) / 2) bs) (s .off)) (at-start s) in
+      let start : restAt s bs a g place two even inside l 0 ≡ s = rw (offs-none (restValue (s .shape .code) (s .exponents) ((g - 2) / 2) bs) (s .off)) (moved-none s) in
       let n : samplesIn (length bs / 2) room ≡ length bs / 2 = all-fit (length bs / 2) room (omega arith) in
       let later : eqb g 0 ≡ false = ne-eqb g 0 (λ x. omega arith) in
       record {

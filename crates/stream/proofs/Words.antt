@@ -20,22 +20,30 @@ use Rattle.words.specs.Words.{valueOf, offOne}
 use Rattle.runs.specs.Runs.{offs}
 use Rattle.runs.specs.Words.{plainValue, groupedIn, groupedValue, groupExponent, groupWord, restValue, turnOf}
 use Rattle.runs.proofs.Done.{offs-more}
+use Rattle.scan.specs.declared.Track.{Track}
 use Rattle.scan.specs.declared.State.{State}
 use Rattle.scan.specs.declared.Stepped.{Stepped}
-use Rattle.scan.specs.Step.{step, word, plain, grouped, nibble, quiet, still, sample, moved, shift, low}
-use Rattle.stream.specs.Bulk.{Able, at, heldAt}
+use Rattle.scan.specs.Step.{step, word, plain, grouped, nibble, quiet, still, sample, moved, movedBy, shift, low}
+use Rattle.stream.specs.Bulk.{Able, heldAt}
 use Rattle.stream.proofs.Held.{held-low}
 use Rattle.stream.proofs.Turns.{Turn, quietly, giving}
 
 -- ---- one byte among the sample words
 
-pub at-start : (s : State) → at s 0 (s .off) (s .held) (s .exponents) ≡ s
-unfolding at
-at-start s = rw (add-zero (s .place))
+pub moved-none : (s : State) → movedBy s 0 (s .track) (s .exponents) (s .off) (s .held) ≡ s
+unfolding movedBy
+moved-none s = rw (add-zero (s .place))
+
+pub moved-next : (s : State) (j : ℕ) (k k′ : Track) (e off held e′ off′ b : ℕ) → moved (movedBy s j k e off held) k′ e′ off′ b ≡ movedBy s (suc j) k′ e′ off′ (shift held b)
+unfolding movedBy moved
+moved-next s j k k′ e off held e′ off′ b = rw (add-assoc (s .place) j 1, add-one)
+
+-- j bytes on among the words, where the scan's start has told what it tells
+abbrev at : State → ℕ → ℕ → ℕ → ℕ → State
+at s j off held e = movedBy s j (s .track) e off held
 
 at-next : (s : State) (j off held e off′ e′ b : ℕ) → moved (at s j off held e) (s .track) e′ off′ b ≡ at s (suc j) off′ (shift held b) e′
-unfolding at moved
-at-next s j off held e off′ e′ b = rw (add-assoc (s .place) j 1, add-one)
+at-next s j off held e off′ e′ b = moved-next s j (s .track) (s .track) e off held e′ off′ b
 
 pub mod-on : (p i m : ℕ) → p % m + i < m → (p + i) % m ≡ p % m + i
 mod-on p i m h = sym (mod-add-mod p m i) ∙ mod-eq-of-lt h
@@ -72,15 +80,15 @@ module _ (s : State) (bs : List ℕ) (w : ℕ) (a : Able s w (length bs)) (i : �
   spot-front f = spot ∙ rw (f, zero-add)
 
   run-step : (off held e : ℕ) → step (at s i off held e) (getD bs i 0) ≡ word (at s i off held e) (getD bs i 0) (s .place % s .shape .scan + i)
-  unfolding at
+  unfolding movedBy
   run-step off held e = step-word _ _ _ (a .stop) (omega (arith, a .long)) (mod-on (s .place) i (s .shape .scan) (omega (arith, a .high))) (omega (arith, a .low))
 
   quiet-next : (off held e : ℕ) → quiet (at s i off held e) (getD bs i 0) ≡ still (at s (suc i) off (shift held (getD bs i 0)) e)
-  unfolding quiet at
+  unfolding quiet movedBy
   quiet-next off held e = ap still (at-next s i off held e off e (getD bs i 0))
 
   sample-next : (f : ℕ → Value) (n held e : ℕ) (x : Value) → x ≡ f n → sample (at s i (s .off + offs f n) held e) x (getD bs i 0) ≡ gave (at s (suc i) (s .off + offs f (n + 1)) (shift held (getD bs i 0)) e) (f n)
-  unfolding sample at
+  unfolding sample movedBy
   sample-next f n held e x ex =
       let o : s .off + offs f n + offOne (f n) ≡ s .off + offs f (n + 1) = rw (offs-more f n, add-assoc) in
       rw ex (ap (λ (t : State). gave t (f n)) (at-next s i (s .off + offs f n) held e (s .off + offs f n + offOne (f n)) e (getD bs i 0) ∙ ap (λ (k : ℕ). at s (suc i) k (shift held (getD bs i 0)) e) o))
@@ -122,7 +130,7 @@ module _ (s : State) (bs : List ℕ) (w : ℕ) (a : Able s w (length bs)) (front
       ap (λ (x : ℕ). valueOf (s .shape .code) 0 x) (rw k at (held-low bs (s .held) l (w * (i / w)) w few))
 
   pub plain-turn : (i : ℕ) → i < length bs → Turn bs plainAt words (plainValue (s .shape .code) w bs) i
-  unfolding at
+  unfolding movedBy
   plain-turn i h = go (next w i some)
     where
       go : Next w i → Turn bs plainAt words (plainValue (s .shape .code) w bs) i
@@ -211,7 +219,7 @@ module _ (s : State) (bs : List ℕ) (a : Able s 10 (length bs)) (front : (s .pl
   wrote-words i odd big = omega arith
 
   pub grouped-turn : (i : ℕ) → i < length bs → Turn bs groupedAt groupedIn (groupedValue (s .shape .code) bs) i
-  unfolding at pick
+  unfolding movedBy pick
   grouped-turn i h = go (eqb (i % 10 % 2) 0) (eqb (i % 10) 1) refl refl
     where
       led : (e : ℕ) → exponentsAt bs (s .held) (s .exponents) (suc i) ≡ e → groupedIn (suc i) ≡ groupedIn i → still (at s (suc i) (s .off + offs (groupedValue (s .shape .code) bs) (groupedIn i)) (heldAt bs (s .held) (suc i)) e) ≡ still (groupedAt (suc i))
@@ -267,7 +275,7 @@ module _ (s : State) (bs : List ℕ) (a : Able s 10 (length bs)) (g : ℕ) (plac
       rw (← bit) (ap (λ (x : ℕ). valueOf (s .shape .code) (field (s .exponents) (18 - 2 * (g + i)) 4) x) (rw end at (held-low bs (s .held) l (2 * (i / 2)) 2 (omega arith))))
 
   pub rest-turn : (i : ℕ) → i < length bs → Turn bs restAt pairs (restValue (s .shape .code) (s .exponents) ((g - 2) / 2) bs) i
-  unfolding at
+  unfolding movedBy
   rest-turn i h = go (eqb (i % 2) 0) refl
     where
       begin : step (restAt i) (getD bs i 0) ≡ grouped (restAt i) (getD bs i 0) (g + i)

@@ -14,7 +14,7 @@ use Rattle.runs.specs.Words.{wordsIn, groupedIn, plainValue, groupedValue, rest
 use Rattle.words.specs.declared.Value.{Value}
 use Rattle.scan.specs.declared.State.{State}
 use Rattle.scan.specs.Fit.{Fit}
-use Rattle.scan.specs.Step.{shift, after, wrote}
+use Rattle.scan.specs.Step.{shift, movedBy, after, wrote}
 use Rattle.stream.specs.declared.Chunk.{Chunk}
 
 -- the bytes of a group of a multiplexed code's words
@@ -46,21 +46,6 @@ pub record Ahead (s : State) (left r : ℕ) : Type 0 where
   pub within : r ≤ left
   pub able : 0 < r → Able s (groupOf (s .shape .code)) r
 
--- the state j bytes on
-unfoldable pub at : State → ℕ → ℕ → ℕ → ℕ → State
-at s j off held e =
-    record {
-      shape = s .shape;
-      place = s .place + j;
-      ends = s .ends;
-      off = off;
-      track = s .track;
-      held = held;
-      exponents = e;
-      stop = s .stop;
-      stopat = s .stopat;
-    }
-
 -- word k from place g of a group of w bytes on, with e the exponents of that group where it is 0015's
 unfoldable pub valueIn : ℕ → ℕ → ℕ → ℕ → List ℕ → ℕ → Value
 valueIn code w g e = pick (eqb w 10) (pick (eqb g 0) (groupedValue code) (restValue code e ((g - 2) / 2))) (plainValue code w)
@@ -84,7 +69,8 @@ lastExponents w g e bs = pick (eqb w 10) (pick (eqb g 0) (written 256 (byteIn bs
 
 -- the state after a run with so many off-rule words
 unfoldable pub ranTo : State → ℕ → ℕ → List ℕ → ℕ → State
-ranTo s w g bs off = at s (length bs) (s .off + off) (heldAt bs (s .held) (length bs)) (lastExponents w g (s .exponents) bs)
+ranTo s w g bs off =
+    movedBy s (length bs) (s .track) (lastExponents w g (s .exponents) bs) (s .off + off) (heldAt bs (s .held) (length bs))
 
 -- what some bytes come to, byte by byte: the state after them, and how many numbers they write
 unfoldable pub chunk : State → List ℕ → Chunk

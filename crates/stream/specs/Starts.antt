@@ -9,30 +9,15 @@ use lib.ListN.{length}
 use Rattle.basis.specs.Choice.{pick}
 use Rattle.basis.specs.Digits.{written, byteIn}
 use Rattle.codes.specs.Codes.{groupOf}
-use Rattle.scan.specs.declared.Track.{Track}
 use Rattle.scan.specs.declared.State.{State}
 use Rattle.scan.specs.Fit.{Fit}
-use Rattle.scan.specs.Step.{full, typed, phased, instep}
+use Rattle.scan.specs.Step.{movedBy, full, typed, phased, instep}
 use Rattle.stream.specs.Bulk.{Able}
-
--- the state j bytes into a scan, with what the starts told by then and the last four bytes
-unfoldable pub into : State → ℕ → Track → ℕ → State
-into s j k held =
-    record {
-      shape = s .shape;
-      place = s .place + j;
-      ends = s .ends;
-      off = s .off;
-      track = k;
-      held = held;
-      exponents = s .exponents;
-      stop = s .stop;
-      stopat = s .stopat;
-    }
 
 -- the state before byte 8 of a scan that begins at byte i
 unfoldable pub seventh : State → List ℕ → ℕ → State
-seventh s bs i = into s 7 (typed (s .track) (byteIn bs (i + 3))) (written 256 (byteIn bs) (i + 3) 4)
+seventh s bs i =
+    movedBy s 7 (typed (s .track) (byteIn bs (i + 3))) (s .exponents) (s .off) (written 256 (byteIn bs) (i + 3) 4)
 
 -- FF FF FF, and a byte with last bits 01
 unfoldable pub synced : List ℕ → ℕ → Bool

@@ -1,6 +1,7 @@
 -- `stream::bulk::ran_to` meets its contract.
 -- Assumes nothing.
-use Rattle.stream.specs.Bulk.{ranTo, at}
+use Rattle.scan.specs.Step.{movedBy}
+use Rattle.stream.specs.Bulk.{ranTo}
 use Rattle.stream.proofs.Parts.{spread-even}
 use borrow.Author.Needs.{needs}
 use Rattle.stream.proofs.bulk.ran_to.Statement.{statement}
@@ -25,7 +26,7 @@ last-exponents-requires : tie.Need-last-exponents-requires
 last-exponents-requires c κs = λ e f. let p = c .before .before .before .before .pre .0 in (p .0 .some, spread-even (p .0 .words) e)
 
 returns : tie.Need-returns
-unfolding ranTo at
+unfolding ranTo movedBy
 returns c = rw (c .last-exponents .ensures, c .before .held-after .ensures)
 
 pub ran-to-spec : {M : Type 1} → statement M

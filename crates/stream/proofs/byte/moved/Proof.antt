@@ -1,6 +1,6 @@
 -- `stream::byte::moved` meets its contract.
 -- Assumes nothing.
-use Rattle.scan.specs.Step.{moved}
+use Rattle.scan.specs.Step.{moved, movedBy}
 use Rattle.basis.proofs.Rules.{tests}
 use borrow.Author.Needs.{needs}
 use Rattle.stream.proofs.byte.moved.Statement.{statement}
@@ -13,7 +13,7 @@ shift-requires : tie.Need-shift-requires
 shift-requires c κs = search needs
 
 returns : tie.Need-returns
-unfolding moved
+unfolding moved movedBy
 returns c = search (tests, c .shift .ensures)
 
 pub moved-spec : {M : Type 1} → statement M

@@ -1,6 +1,7 @@
 -- `stream::start::seventh` meets its contract.
 -- Assumes nothing.
-use Rattle.stream.specs.Starts.{seventh, into}
+use Rattle.scan.specs.Step.{movedBy}
+use Rattle.stream.specs.Starts.{seventh}
 use borrow.Author.Needs.{needs}
 use Rattle.stream.proofs.start.seventh.Statement.{statement}
 use Rattle.stream.proofs.start.seventh.Tie as tie
@@ -24,7 +25,7 @@ big4-requires : tie.Need-big4-requires
 big4-requires c κs = search needs
 
 returns : tie.Need-returns
-unfolding seventh into
+unfolding seventh movedBy
 returns c = rw (c .big4 .ensures, c .before .typed .ensures)
 
 pub seventh-spec : {M : Type 1} → statement M

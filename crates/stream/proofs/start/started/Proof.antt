@@ -4,7 +4,8 @@ use mathlib.Core.Path.{sym, ap}
 use native.Mathlib.Omega.{arith}
 use denote.Ref.{now}
 use Rattle.scan.specs.declared.State.{State}
-use Rattle.stream.specs.Starts.{seventh, into}
+use Rattle.scan.specs.Step.{movedBy}
+use Rattle.stream.specs.Starts.{seventh}
 use Rattle.stream.proofs.Starts.{eight}
 use borrow.Author.Needs.{needs}
 use Rattle.stream.proofs.start.started.Statement.{statement}
@@ -23,7 +24,7 @@ timed-requires : tie.Need-timed-requires
 timed-requires c κs = search needs
 
 moved-requires : tie.Need-moved-requires
-unfolding seventh into
+unfolding seventh movedBy
 moved-requires c κs = let e = ap (λ (x : State). x .place) (c .before .before .seventh .ensures) in omega (arith, e, c .before .before .before .before .pre .long)
 
 returns : tie.Need-returns
