@@ -12,11 +12,11 @@ use Rattle.layout.specs.declared.Index.{Index}
 use Rattle.layout.specs.declared.Index.the-variants.{Sample, NoSample}
 use Rattle.layout.specs.declared.Place.{Place}
 use Rattle.layout.specs.declared.Place.the-variants.{Sits, NoPlace}
-use Rattle.parts.specs.declared.Skewed.{Skewed}
-use Rattle.parts.specs.declared.Skewed.the-variants.{Skew, NoSkew}
-use Rattle.parts.specs.declared.Timed.{Timed}
-use Rattle.parts.specs.declared.Timed.the-variants.{Time, NoTime}
-use Rattle.parts.specs.Skews.{skewPlace}
+use Rattle.skew.specs.declared.Skewed.{Skewed}
+use Rattle.skew.specs.declared.Skewed.the-variants.{Skew, NoSkew}
+use Rattle.skew.specs.declared.Timed.{Timed}
+use Rattle.skew.specs.declared.Timed.the-variants.{Time, NoTime}
+use Rattle.skew.specs.Skews.{skewPlace}
 use Rattle.deck.specs.declared.places.SegdIndex.{SegdIndex}
 use Rattle.deck.specs.declared.places.SegdPlace.{SegdPlace}
 use Rattle.deck.specs.declared.places.SegdPart.{SegdPart}

@@ -5,19 +5,19 @@ ghost use Rattle.general.specs.General.{extendedFields, externalFields};
 ghost use Rattle.header.specs.Faults.{headerFault};
 ghost use Rattle.layout.specs.Indexes.{indexAnswer, placeAnswer};
 ghost use Rattle.parts.specs.Parts.{extendedPlace, externalPlace};
-ghost use Rattle.parts.specs.Skews.{skewFault, skewAnswer};
-ghost use Rattle.parts.specs.Times.{timeAnswer};
+ghost use Rattle.skew.specs.Skews.{skewFault, skewAnswer};
+ghost use Rattle.skew.specs.Times.{timeAnswer};
 ghost use Rattle.deck.specs.Places.{flatIndex, flatPlace, flatPart, flatSkew, flatByte, flatTime};
 use crate::flag_of;
 use crate::unrefused;
 use block::pair_at;
 use layout::Index;
 use layout::Place;
-use parts::Skewed;
-use parts::Timed;
 use refusals::Fault;
 use refusals::Told;
 use sets::samples_before;
+use skew::Skewed;
+use skew::Timed;
 
 // Sample k of a scan; 0 where it is refused.
 #[repr(C)]
@@ -150,7 +150,7 @@ pub struct SegdSkew {
 pub extern "C" fn segd_skew(block: &[u8], sheet: &[u8], scan_type: u32) -> SegdSkew
     ensures { λ r. ⌜ r ≡ flatSkew (skewFault (now (block .entry)) (now (sheet .entry)) «scan_type») (now (block .entry)) «scan_type» ⌝ }
 {
-    let fault = parts::skew_fault(block, sheet, scan_type);
+    let fault = skew::skew_fault(block, sheet, scan_type);
     match fault {
         Fault::Clear => {
             let t = (scan_type - 1) as u8;
@@ -158,7 +158,7 @@ pub extern "C" fn segd_skew(block: &[u8], sheet: &[u8], scan_type: u32) -> SegdS
             SegdSkew {
                 refusal: unrefused(),
                 of_sheet: flag_of(pair_at(block, 30) == 0),
-                offset: parts::skew_place(block, t) as u64,
+                offset: skew::skew_place(block, t) as u64,
                 length: samples as u64,
             }
         }
@@ -182,7 +182,7 @@ pub struct SegdByte {
 pub extern "C" fn segd_skew_at(block: &[u8], sheet: &[u8], scan_type: u32, k: u32) -> SegdByte
     ensures { λ r. ⌜ r ≡ flatByte (skewAnswer (now (block .entry)) (now (sheet .entry)) «scan_type» k) ⌝ }
 {
-    let answer = parts::skew_at(block, sheet, scan_type, k);
+    let answer = skew::skew_at(block, sheet, scan_type, k);
     match answer {
         Skewed::Skew(value) => SegdByte {
             refusal: unrefused(),
@@ -212,7 +212,7 @@ pub extern "C" fn segd_sample_time(
 ) -> SegdTime
     ensures { λ r. ⌜ r ≡ flatTime (timeAnswer (now (block .entry)) (now (sheet .entry)) «scan_type» k t) ⌝ }
 {
-    let answer = parts::sample_time(block, sheet, scan_type, k, t);
+    let answer = skew::sample_time(block, sheet, scan_type, k, t);
     match answer {
         Timed::Time(time) => SegdTime {
             refusal: unrefused(),

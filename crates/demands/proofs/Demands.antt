@@ -38,10 +38,10 @@ use Rattle.header.proofs.Accepted.{descriptor-inside, subscans-small, skew-insi
 use Rattle.layout.proofs.WordLaws.{words-apart, word-inside, words-fill}
 use Rattle.body.proofs.Opens.{open-unfit}
 use Rattle.stream.proofs.Stops.{stop-said}
-use Rattle.parts.specs.declared.Skewed.the-variants.{Skew}
-use Rattle.parts.specs.declared.Timed.the-variants.{Time}
-use Rattle.parts.specs.Skews.{sheetHolds, skewByte, skewByteFault, skewAfter, skewAnswer}
-use Rattle.parts.specs.Times.{timeBy, timeFault, timeAnswer, timeAfter}
+use Rattle.skew.specs.declared.Skewed.the-variants.{Skew}
+use Rattle.skew.specs.declared.Timed.the-variants.{Time}
+use Rattle.skew.specs.Skews.{sheetHolds, skewByte, skewByteFault, skewAfter, skewAnswer}
+use Rattle.skew.specs.Times.{timeBy, timeFault, timeAnswer, timeAfter}
 use Rattle.rules.specs.Tape.{Body, byteAt}
 use Rattle.rules.specs.Scans.{Shape}
 use Rattle.rules.specs.Samples.{numbersAt}

@@ -18,7 +18,7 @@ use Rattle.sets.specs.Samples.{setSamples, samplesOf}
 use Rattle.sets.specs.ChannelSets.{quarters}
 use Rattle.header.specs.Faults.{sizeHolds, sizeFault, sizesFault, skewHolds, headerFault}
 use Rattle.layout.specs.Indexes.{passed, setAt, setOf, hasSample, spotOf, placeFault, placeAnswer}
-use Rattle.parts.specs.Times.{timeBy}
+use Rattle.skew.specs.Times.{timeBy}
 use Rattle.demands.specs.Figures.{Says, header, place, starred, All, figures}
 
 -- the starred header breaks no rule

@@ -14,8 +14,8 @@ use Rattle.header.specs.Faults.{headerFault}
 use Rattle.header.proofs.Accepted.{external-inside}
 use Rattle.parts.specs.Slices.{slice, part}
 use Rattle.parts.specs.Parts.{extendedPlace, externalPlace}
-use Rattle.parts.specs.Skews.{source, skewPlace, skewFault, skewOf, skewPart}
-use Rattle.parts.proofs.Fits.{skew-asked, asked-fits, source-bytes, byte-of-part}
+use Rattle.skew.specs.Skews.{source, skewPlace, skewFault, skewOf, skewPart}
+use Rattle.skew.proofs.Fits.{skew-asked, asked-fits, source-bytes, byte-of-part}
 use Rattle.demands.specs.Demand2.{SkewBytes}
 
 pub external-next : (b : List ℕ) → extendedPlace b + 32 * extendedFields b ≡ externalPlace b

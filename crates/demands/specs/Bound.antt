@@ -15,8 +15,8 @@ use Rattle.header.specs.Answers.{headerAnswer, descriptorAnswer}
 use Rattle.layout.specs.Indexes.{indexAnswer, placeAnswer}
 use Rattle.parts.specs.Slices.{Slice, slice}
 use Rattle.parts.specs.Parts.{extendedPlace, externalPlace, constantsPart, extendedPart, externalPart}
-use Rattle.parts.specs.Skews.{skewFault, skewPart, skewAnswer}
-use Rattle.parts.specs.Times.{timeAnswer}
+use Rattle.skew.specs.Skews.{skewFault, skewPart, skewAnswer}
+use Rattle.skew.specs.Times.{timeAnswer}
 use Rattle.body.specs.Open.{opened}
 use Rattle.stream.specs.Calls.{portion}
 use Rattle.body.specs.Ends.{blockEnd, close}
@@ -36,10 +36,10 @@ use Rattle.layout.proofs.sample_place.Reads as layout-sample-place
 use Rattle.parts.proofs.constants.Reads as parts-constants
 use Rattle.parts.proofs.extended.Reads as parts-extended
 use Rattle.parts.proofs.external.Reads as parts-external
-use Rattle.parts.proofs.skew_fault.Reads as parts-skew-fault
-use Rattle.parts.proofs.skew.Reads as parts-skew
-use Rattle.parts.proofs.skew_at.Reads as parts-skew-at
-use Rattle.parts.proofs.sample_time.Reads as parts-sample-time
+use Rattle.skew.proofs.skew_fault.Reads as skew-skew-fault
+use Rattle.skew.proofs.skew.Reads as skew-skew
+use Rattle.skew.proofs.skew_at.Reads as skew-skew-at
+use Rattle.skew.proofs.sample_time.Reads as skew-sample-time
 use Rattle.view.proofs.place_in.Reads as view-place-in
 use Rattle.body.proofs.open.Reads as body-open
 use Rattle.stream.proofs.portion.Reads as stream-portion
@@ -119,10 +119,10 @@ pub record Bound : Type 0 where
   pub constants : IsPart parts-constants.Post (λ κ a. constantsPart (lent (first a)))
   pub extended : IsPart parts-extended.Post (λ κ a. extendedPart (lent (first a)))
   pub external : IsPart parts-external.Post (λ κ a. externalPart (lent (first a)))
-  pub skew-fault : Is parts-skew-fault.Post (λ κ a. skewFault (first a .now) (second a .now) (third a))
-  pub skew : IsPart parts-skew.Post (λ κ a. skewPart (lent (first a)) (lent (second a)) (third a))
-  pub skew-at : Is parts-skew-at.Post (λ κ a. skewAnswer (first a .now) (second a .now) (third a) (fourth a))
-  pub sample-time : Is parts-sample-time.Post (λ κ a. timeAnswer (first a .now) (second a .now) (third a) (fourth a) (fifth a))
+  pub skew-fault : Is skew-skew-fault.Post (λ κ a. skewFault (first a .now) (second a .now) (third a))
+  pub skew : IsPart skew-skew.Post (λ κ a. skewPart (lent (first a)) (lent (second a)) (third a))
+  pub skew-at : Is skew-skew-at.Post (λ κ a. skewAnswer (first a .now) (second a .now) (third a) (fourth a))
+  pub sample-time : Is skew-sample-time.Post (λ κ a. timeAnswer (first a .now) (second a .now) (third a) (fourth a) (fifth a))
   -- the body: a portion answers, and leaves in the output what it wrote over its front
   pub opens : Is body-open.Post (λ κ a. opened (first a .now))
   pub portions : Is stream-portion.Post (λ κ a. portion (first a) (second a .now) (length (third a .now)))

@@ -10,8 +10,8 @@ use denote.Triple.Entry.{Args, Res}
 use Rattle.header.specs.Answers.{headerAnswer, descriptorAnswer}
 use Rattle.layout.specs.Indexes.{indexAnswer, placeAnswer}
 use Rattle.parts.specs.Parts.{constantsPart, extendedPart, externalPart}
-use Rattle.parts.specs.Skews.{skewFault, skewPart}
-use Rattle.parts.specs.Times.{timeAnswer}
+use Rattle.skew.specs.Skews.{skewFault, skewPart}
+use Rattle.skew.specs.Times.{timeAnswer}
 use Rattle.body.specs.Open.{opened}
 use Rattle.view.proofs.carry as view-carry
 use Rattle.view.proofs.answer_of as view-answer-of

@@ -1,5 +1,5 @@
 -- The second demand: fields, places, samples and times are the paper's, as the description reads it. What each is stands in the specs
--- of general, sets, words, layout and parts; here stand that accepted headers and words of a code are given it, and not vacuously.
+-- of general, sets, words, layout, parts and skew; here stand that accepted headers and words of a code are given it, and not vacuously.
 -- Assumes nothing.
 use Prim.Native.Nat.{ℕ, _+_, _*_, _-_, _^_, _≤_, _<_}
 use mathlib.Core.Path.{_≡_}
@@ -30,12 +30,12 @@ use Rattle.header.specs.Answers.{headerOf, headerAnswer, isSet, descriptorAnswe
 use Rattle.layout.specs.Indexes.{hasSample}
 use Rattle.layout.specs.Inverse.{Inverse}
 use Rattle.layout.specs.Places.{wordPlaceOf}
-use Rattle.parts.specs.declared.Skewed.the-variants.{Skew}
-use Rattle.parts.specs.declared.Timed.the-variants.{Time}
+use Rattle.skew.specs.declared.Skewed.the-variants.{Skew}
+use Rattle.skew.specs.declared.Timed.the-variants.{Time}
 use Rattle.parts.specs.Slices.{slice}
 use Rattle.parts.specs.Parts.{extendedPlace, externalPlace}
-use Rattle.parts.specs.Skews.{skewByte, sheetHolds, skewFault, skewPart, skewAnswer}
-use Rattle.parts.specs.Times.{timeBy, timeAnswer}
+use Rattle.skew.specs.Skews.{skewByte, sheetHolds, skewFault, skewPart, skewAnswer}
+use Rattle.skew.specs.Times.{timeBy, timeAnswer}
 use Rattle.demands.specs.Figures.{All, figures}
 
 -- a word joined of S, c, Q and the bits not used, as a row has them; and that a word has them

@@ -23,7 +23,7 @@ use Rattle.header.specs.Faults.{headerFault}
 use Rattle.layout.specs.declared.Place.{Place}
 use Rattle.layout.specs.declared.Place.the-variants.{Sits, NoPlace}
 use Rattle.layout.specs.Indexes.{placeAnswer}
-use Rattle.parts.specs.Times.{timeBy}
+use Rattle.skew.specs.Times.{timeBy}
 use Rattle.rules.specs.Scans.{nextTiming}
 
 -- so many zero bytes

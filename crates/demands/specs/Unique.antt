@@ -45,11 +45,11 @@ use Rattle.parts.proofs.constants.Reads as parts-constants
 use Rattle.parts.proofs.extended_place.Reads as parts-extended-place
 use Rattle.parts.proofs.extended.Reads as parts-extended
 use Rattle.parts.proofs.external.Reads as parts-external
-use Rattle.parts.proofs.skew_fault.Reads as parts-skew-fault
-use Rattle.parts.proofs.skew_place.Reads as parts-skew-place
-use Rattle.parts.proofs.skew.Reads as parts-skew
-use Rattle.parts.proofs.skew_at.Reads as parts-skew-at
-use Rattle.parts.proofs.sample_time.Reads as parts-sample-time
+use Rattle.skew.proofs.skew_fault.Reads as skew-skew-fault
+use Rattle.skew.proofs.skew_place.Reads as skew-skew-place
+use Rattle.skew.proofs.skew.Reads as skew-skew
+use Rattle.skew.proofs.skew_at.Reads as skew-skew-at
+use Rattle.skew.proofs.sample_time.Reads as skew-sample-time
 use Rattle.scan.proofs.fit.Reads as scan-fit
 use Rattle.runs.proofs.byte_words.Reads as runs-byte-words
 use Rattle.runs.proofs.words24.Reads as runs-words24
@@ -133,11 +133,11 @@ pub record Unique : Type 0 where
   pub extended-place : OneAnswer parts-extended-place.Post
   pub extended : OnePart parts-extended.Post
   pub external : OnePart parts-external.Post
-  pub skew-fault : OneAnswer parts-skew-fault.Post
-  pub skew-place : OneAnswer parts-skew-place.Post
-  pub skew : OnePart parts-skew.Post
-  pub skew-at : OneAnswer parts-skew-at.Post
-  pub sample-time : OneAnswer parts-sample-time.Post
+  pub skew-fault : OneAnswer skew-skew-fault.Post
+  pub skew-place : OneAnswer skew-skew-place.Post
+  pub skew : OnePart skew-skew.Post
+  pub skew-at : OneAnswer skew-skew-at.Post
+  pub sample-time : OneAnswer skew-sample-time.Post
   pub fit : OneAnswer scan-fit.Post
   pub byte-words : OneAnswer runs-byte-words.Post
   pub byte-words-content : OneContent runs-byte-words.Post (λ κ e. e .1 .1 .0 .now)

@@ -13,9 +13,9 @@ use crate::print::text;
 use header::Described;
 use layout::Index;
 use layout::Place;
-use parts::Skewed;
-use parts::Timed;
 use refusals::Fault;
+use skew::Skewed;
+use skew::Timed;
 
 // A name and two numbers: a set or a sample after its scan type, a channel in a subscan.
 fn pair(name: &[u8], first: u32, second: u32) {
@@ -76,7 +76,7 @@ fn skewed(b: &[u8], sheet: &[u8], scan_type: u32, k: u32) {
     number(k);
     length(b", sheet of ", sheet);
     text(b"skew ");
-    let answer = parts::skew_at(b, sheet, scan_type, k);
+    let answer = skew::skew_at(b, sheet, scan_type, k);
     match answer {
         Skewed::Skew(x) => {
             number(x as u32);
@@ -104,7 +104,7 @@ fn timed(b: &[u8], sheet: &[u8], scan_type: u32, k: u32, t: u32) {
     text(b" at ");
     number(t);
     length(b", sheet of ", sheet);
-    let answer = parts::sample_time(b, sheet, scan_type, k, t);
+    let answer = skew::sample_time(b, sheet, scan_type, k, t);
     match answer {
         Timed::Time(x) => {
             number(x);
@@ -116,7 +116,7 @@ fn timed(b: &[u8], sheet: &[u8], scan_type: u32, k: u32, t: u32) {
 
 fn sheet_of(b: &[u8], sheet: &[u8]) {
     length(b"sheet of ", sheet);
-    let f = parts::skew_fault(b, sheet, 1);
+    let f = skew::skew_fault(b, sheet, 1);
     match f {
         Fault::Clear => text(b"fits\n"),
         Fault::At(r) => refused(r),

@@ -1,4 +1,2 @@
 pub mod Slices
 pub mod Parts
-pub mod Skews
-pub mod Times

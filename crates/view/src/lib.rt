@@ -5,16 +5,16 @@ ghost use Rattle.header.specs.Answers.{headerAnswer, descriptorAnswer};
 ghost use Rattle.layout.specs.Indexes.{indexAnswer, placeAnswer};
 ghost use Rattle.parts.specs.Slices.{slice};
 ghost use Rattle.parts.specs.Parts.{constantsPart, extendedPart, externalPart};
-ghost use Rattle.parts.specs.Skews.{skewFault, skewPart};
-ghost use Rattle.parts.specs.Times.{timeAnswer};
+ghost use Rattle.skew.specs.Skews.{skewFault, skewPart};
+ghost use Rattle.skew.specs.Times.{timeAnswer};
 ghost use Rattle.body.specs.Open.{opened};
 use body::Opened;
 use header::Answer;
 use header::Described;
 use layout::Index;
 use layout::Place;
-use parts::Timed;
 use refusals::Fault;
+use skew::Timed;
 
 // The whole block, and what reading its header answered.
 pub struct Carried<'a> {
@@ -91,14 +91,14 @@ pub fn external_of<'a>(v: Carried<'a>) -> &'a [u8]
 pub fn skew_of<'a>(v: Carried<'a>, sheet: &'a [u8], scan_type: u32) -> &'a [u8]
     ensures { λ r. ⌜ slice (r .ptr) (now r) ≡ skewPart (slice (v .entry .block .ptr) (now (v .entry .block))) (slice (sheet .entry .ptr) (now (sheet .entry))) «scan_type» ⌝ }
 {
-    parts::skew(v.block, sheet, scan_type)
+    skew::skew(v.block, sheet, scan_type)
 }
 
 // What refuses them.
 pub fn skew_fault_of<'a, 'b>(v: Carried<'a>, sheet: &'b [u8], scan_type: u32) -> Fault
     ensures { λ r. ⌜ r ≡ skewFault (now (v .entry .block)) (now (sheet .entry)) «scan_type» ⌝ }
 {
-    parts::skew_fault(v.block, sheet, scan_type)
+    skew::skew_fault(v.block, sheet, scan_type)
 }
 
 // The time of sample k in a scan with timing word t.
@@ -111,7 +111,7 @@ pub fn sample_time_of<'a, 'b>(
 ) -> Timed
     ensures { λ r. ⌜ r ≡ timeAnswer (now (v .entry .block)) (now (sheet .entry)) «scan_type» k t ⌝ }
 {
-    parts::sample_time(v.block, sheet, scan_type, k, t)
+    skew::sample_time(v.block, sheet, scan_type, k, t)
 }
 
 // Opening a body on the header.

@@ -4,12 +4,12 @@ use contract.Running.{givenOf, tables, tablesOf}
 use denote.Enum.Laws as EL
 use denote.Triple.Spec.{tripleOf}
 use denote.Triple.Table.{entered, cited}
-use Rattle.parts.proofs.Timed as S
-use Rattle.parts.proofs.Timed.Laws as S′
-use Rattle.parts.proofs.sample_time.Symbol as plain-def
-use Rattle.parts.proofs.sample_time.Symbol.{name as #parts·sample-time}
-use Rattle.parts.proofs.sample_time.Met as plain-thm
-use Rattle.parts.proofs.sample_time.Reads as plain
+use Rattle.skew.proofs.Timed as S
+use Rattle.skew.proofs.Timed.Laws as S′
+use Rattle.skew.proofs.sample_time.Symbol as plain-def
+use Rattle.skew.proofs.sample_time.Symbol.{name as #skew·sample-time}
+use Rattle.skew.proofs.sample_time.Met as plain-thm
+use Rattle.skew.proofs.sample_time.Reads as plain
 use Rattle.view.proofs.Apart.{Result, number, bytes}
 use Rattle.view.proofs.Walks.{asks4}
 use Rattle.view.proofs.sample_time_of.Key.{name as #view·sample-time-of}
@@ -25,6 +25,6 @@ unfolding code.routine tablesOf
 sample-time-of-spec 𝓤 H 𝓜 𝓖 𝓡 =
     entered 𝓤 H (tripleOf 𝓤 H (𝓖 .A) f.signature (f.spec 𝓤 H (𝓖 .A) (𝓜 .mem) (𝓡 .run)))
     (tables 𝓤 H 𝓜 𝓡 code.env .C) (tables 𝓤 H 𝓜 𝓡 code.env .Λ) #view·sample-time-of code.function (code.unfolded 𝓤 H 𝓜 𝓡)
-    (asks4 {n = 1} (bytes 1 tt) number number number answer (λ κs b xs r. plain.Post κs (b, xs) r (b, xs)) 𝓤 H (𝓖 .A) (givenOf 𝓤 H 𝓜 𝓖) (tablesOf 𝓤 H 𝓜 (tables 𝓤 H 𝓜 𝓡 code.env)) #parts·sample-time
+    (asks4 {n = 1} (bytes 1 tt) number number number answer (λ κs b xs r. plain.Post κs (b, xs) r (b, xs)) 𝓤 H (𝓖 .A) (givenOf 𝓤 H 𝓜 𝓖) (tablesOf 𝓤 H 𝓜 (tables 𝓤 H 𝓜 𝓡 code.env)) #skew·sample-time
     (f.clauses 𝓤 H (𝓖 .A) (𝓜 .mem) (𝓡 .run)) refl
-    (cited 𝓤 H _ 𝓜 𝓡 code.env #parts·sample-time plain-def.routine code.calls-parts·sample-time (plain-thm.met 𝓤 H 𝓜 𝓖 𝓡)))
+    (cited 𝓤 H _ 𝓜 𝓡 code.env #skew·sample-time plain-def.routine code.calls-skew·sample-time (plain-thm.met 𝓤 H 𝓜 𝓖 𝓡)))

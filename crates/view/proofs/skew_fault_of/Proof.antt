@@ -6,10 +6,10 @@ use denote.Triple.Spec.{tripleOf}
 use denote.Triple.Table.{entered, cited}
 use Rattle.refusals.proofs.Fault as S
 use Rattle.refusals.proofs.Fault.Laws as S′
-use Rattle.parts.proofs.skew_fault.Symbol as plain-def
-use Rattle.parts.proofs.skew_fault.Symbol.{name as #parts·skew-fault}
-use Rattle.parts.proofs.skew_fault.Met as plain-thm
-use Rattle.parts.proofs.skew_fault.Reads as plain
+use Rattle.skew.proofs.skew_fault.Symbol as plain-def
+use Rattle.skew.proofs.skew_fault.Symbol.{name as #skew·skew-fault}
+use Rattle.skew.proofs.skew_fault.Met as plain-thm
+use Rattle.skew.proofs.skew_fault.Reads as plain
 use Rattle.view.proofs.Apart.{Result, number, bytes}
 use Rattle.view.proofs.Walks.{asks2}
 use Rattle.view.proofs.skew_fault_of.Key.{name as #view·skew-fault-of}
@@ -25,6 +25,6 @@ unfolding code.routine tablesOf
 skew-fault-of-spec 𝓤 H 𝓜 𝓖 𝓡 =
     entered 𝓤 H (tripleOf 𝓤 H (𝓖 .A) f.signature (f.spec 𝓤 H (𝓖 .A) (𝓜 .mem) (𝓡 .run)))
     (tables 𝓤 H 𝓜 𝓡 code.env .C) (tables 𝓤 H 𝓜 𝓡 code.env .Λ) #view·skew-fault-of code.function (code.unfolded 𝓤 H 𝓜 𝓡)
-    (asks2 {n = 1} (bytes 1 tt) number answer (λ κs b xs r. plain.Post κs (b, xs) r (b, xs)) 𝓤 H (𝓖 .A) (givenOf 𝓤 H 𝓜 𝓖) (tablesOf 𝓤 H 𝓜 (tables 𝓤 H 𝓜 𝓡 code.env)) #parts·skew-fault
+    (asks2 {n = 1} (bytes 1 tt) number answer (λ κs b xs r. plain.Post κs (b, xs) r (b, xs)) 𝓤 H (𝓖 .A) (givenOf 𝓤 H 𝓜 𝓖) (tablesOf 𝓤 H 𝓜 (tables 𝓤 H 𝓜 𝓡 code.env)) #skew·skew-fault
     (f.clauses 𝓤 H (𝓖 .A) (𝓜 .mem) (𝓡 .run)) refl
-    (cited 𝓤 H _ 𝓜 𝓡 code.env #parts·skew-fault plain-def.routine code.calls-parts·skew-fault (plain-thm.met 𝓤 H 𝓜 𝓖 𝓡)))
+    (cited 𝓤 H _ 𝓜 𝓡 code.env #skew·skew-fault plain-def.routine code.calls-skew·skew-fault (plain-thm.met 𝓤 H 𝓜 𝓖 𝓡)))

@@ -1,7 +1,7 @@
 -- `deck::places::segd_skew` meets its contract.
 -- Assumes nothing.
 use Rattle.sets.specs.Samples.{samplesOf}
-use Rattle.parts.proofs.Fits.{skew-asked}
+use Rattle.skew.proofs.Fits.{skew-asked}
 use native.Mathlib.Omega.{arith}
 use mathlib.Core.Path.{sym, _∙_}
 use borrow.Author.Needs.{needs}

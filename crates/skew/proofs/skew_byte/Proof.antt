@@ -1,4 +1,4 @@
--- `parts::skew_byte` meets its contract.
+-- `skew::skew_byte` meets its contract.
 -- Assumes nothing.
 use Prim.Native.Nat.{_+_, _-_, _<_}
 use native.Mathlib.Omega.{arith}
@@ -7,10 +7,10 @@ use borrow.Author.Tests.{eq-eqb, ne-eqb}
 use borrow.Author.Needs.{needs}
 use Rattle.basis.specs.Choice.{pick}
 use Rattle.sets.specs.Samples.{samplesOf}
-use Rattle.parts.specs.Skews.{source, skewByte}
-use Rattle.parts.proofs.Fits.{Asked, byte-asked, asked-fits}
-use Rattle.parts.proofs.skew_byte.Statement.{statement}
-use Rattle.parts.proofs.skew_byte.Tie as tie
+use Rattle.skew.specs.Skews.{source, skewByte}
+use Rattle.skew.proofs.Fits.{Asked, byte-asked, asked-fits}
+use Rattle.skew.proofs.skew_byte.Statement.{statement}
+use Rattle.skew.proofs.skew_byte.Tie as tie
 
 facts : (c : tie.After-shared-slice-known2) → Asked (c .before .before .args .block .now) (c .before .before .args .sheet .now) (c .before .before .args .t) × (c .before .before .args .k < samplesOf (c .before .before .args .block .now) (c .before .before .args .t - 1))
 facts c = byte-asked _ _ _ _ (c .before .before .pre)

@@ -1,11 +1,11 @@
--- `parts::lent` meets its contract.
+-- `skew::lent` meets its contract.
 -- Assumes nothing.
 use borrow.Author.Tests.{eq-eqb, ne-eqb}
 use borrow.Author.Needs.{needs}
 use Rattle.basis.specs.Choice.{pick}
-use Rattle.parts.specs.Skews.{source}
-use Rattle.parts.proofs.lent.Statement.{statement}
-use Rattle.parts.proofs.lent.Tie as tie
+use Rattle.skew.specs.Skews.{source}
+use Rattle.skew.proofs.lent.Statement.{statement}
+use Rattle.skew.proofs.lent.Tie as tie
 
 pair-at-requires : tie.Need-pair-at-requires
 pair-at-requires c κs = search needs

@@ -16,10 +16,10 @@ use Rattle.sets.specs.Descriptors.{descriptorPlace}
 use Rattle.sets.specs.Samples.{samplesOf}
 use Rattle.header.specs.Faults.{headerFault}
 use Rattle.layout.specs.Indexes.{placeFault}
-use Rattle.parts.specs.declared.Skewed.{Skewed}
-use Rattle.parts.specs.declared.Skewed.the-variants.{Skew, NoSkew}
+use Rattle.skew.specs.declared.Skewed.{Skewed}
+use Rattle.skew.specs.declared.Skewed.the-variants.{Skew, NoSkew}
 use Rattle.parts.specs.Slices.{Slice, part}
 use Rattle.parts.specs.Parts.{partAfter}
 
 -- "Where SK is 0 the skew comes from the crew's sheet lent beside the block", else from the block
 unfoldable pub source : {A : Type 0} → List ℕ → A → A → A

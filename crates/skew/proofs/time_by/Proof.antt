@@ -1,13 +1,13 @@
--- `parts::time_by` meets its contract.
+-- `skew::time_by` meets its contract.
 -- Assumes nothing.
 use Prim.Native.Nat.{_*_, _<_, _^_}
 use mathlib.Core.Path.{refl}
 use native.Mathlib.Omega.{arith}
 use borrow.Author.Needs.{needs}
 use Rattle.basis.proofs.Numbers.{product-lt}
-use Rattle.parts.specs.Times.{timeBy}
-use Rattle.parts.proofs.time_by.Statement.{statement}
-use Rattle.parts.proofs.time_by.Tie as tie
+use Rattle.skew.specs.Times.{timeBy}
+use Rattle.skew.proofs.time_by.Statement.{statement}
+use Rattle.skew.proofs.time_by.Tie as tie
 
 small : (c : tie.Start) → c .args .skew * c .args .interval < 2 ^ 8 * 2 ^ 8
 small c = let v : c .args .skew < 2 ^ 8 = search needs in let w : c .args .interval < 2 ^ 8 = search needs in product-lt v w

@@ -1,11 +1,11 @@
--- `parts::time_fault` meets its contract.
+-- `skew::time_fault` meets its contract.
 -- Assumes nothing.
 use borrow.Author.Tests.{le-ltb, lt-ltb}
 use borrow.Author.Needs.{needs}
 use Rattle.basis.specs.Choice.{pick}
-use Rattle.parts.specs.Times.{timeFault}
-use Rattle.parts.proofs.time_fault.Statement.{statement}
-use Rattle.parts.proofs.time_fault.Tie as tie
+use Rattle.skew.specs.Times.{timeFault}
+use Rattle.skew.proofs.time_fault.Statement.{statement}
+use Rattle.skew.proofs.time_fault.Tie as tie
 
 place-fault-requires : tie.Need-place-fault-requires
 place-fault-requires c κs = search needs

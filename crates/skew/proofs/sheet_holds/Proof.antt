@@ -1,11 +1,11 @@
--- `parts::sheet_holds` meets its contract.
+-- `skew::sheet_holds` meets its contract.
 -- Assumes nothing.
 use native.Mathlib.Omega.{arith}
 use borrow.Author.Needs.{needs}
 use Rattle.basis.proofs.Numbers.{product-lt}
-use Rattle.parts.specs.Skews.{sheetHolds}
-use Rattle.parts.proofs.sheet_holds.Statement.{statement}
-use Rattle.parts.proofs.sheet_holds.Tie as tie
+use Rattle.skew.specs.Skews.{sheetHolds}
+use Rattle.skew.proofs.sheet_holds.Statement.{statement}
+use Rattle.skew.proofs.sheet_holds.Tie as tie
 
 pair-at-requires : tie.Need-pair-at-requires
 pair-at-requires c κs = search needs

@@ -10,9 +10,9 @@ use Rattle.refusals.specs.declared.Refusal.the-variants.{Index, Sheet}
 use Rattle.refusals.specs.Order.{when, orElse}
 use Rattle.general.specs.General.{intervalOf}
 use Rattle.layout.specs.Indexes.{placeFault}
-use Rattle.parts.specs.declared.Timed.{Timed}
-use Rattle.parts.specs.declared.Timed.the-variants.{Time, NoTime}
-use Rattle.parts.specs.Skews.{sheetHolds, skewByte}
+use Rattle.skew.specs.declared.Timed.{Timed}
+use Rattle.skew.specs.declared.Timed.the-variants.{Time, NoTime}
+use Rattle.skew.specs.Skews.{sheetHolds, skewByte}
 
 -- "Sample time in 1/4096 ms is 16 T + SS x I"
 unfoldable pub timeBy : ℕ → ℕ → ℕ → ℕ

@@ -1,10 +1,10 @@
--- `parts::skew_fault` meets its contract.
+-- `skew::skew_fault` meets its contract.
 -- Assumes nothing.
 use borrow.Author.Needs.{needs}
 use Rattle.basis.specs.Choice.{pick}
-use Rattle.parts.specs.Skews.{skewFault}
-use Rattle.parts.proofs.skew_fault.Statement.{statement}
-use Rattle.parts.proofs.skew_fault.Tie as tie
+use Rattle.skew.specs.Skews.{skewFault}
+use Rattle.skew.proofs.skew_fault.Statement.{statement}
+use Rattle.skew.proofs.skew_fault.Tie as tie
 
 header-fault-requires : tie.Need-header-fault-requires
 header-fault-requires c κs = search needs

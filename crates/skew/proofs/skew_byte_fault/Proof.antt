@@ -1,10 +1,10 @@
--- `parts::skew_byte_fault` meets its contract.
+-- `skew::skew_byte_fault` meets its contract.
 -- Assumes nothing.
 use borrow.Author.Needs.{needs}
 use Rattle.basis.specs.Choice.{pick}
-use Rattle.parts.specs.Skews.{skewByteFault}
-use Rattle.parts.proofs.skew_byte_fault.Statement.{statement}
-use Rattle.parts.proofs.skew_byte_fault.Tie as tie
+use Rattle.skew.specs.Skews.{skewByteFault}
+use Rattle.skew.proofs.skew_byte_fault.Statement.{statement}
+use Rattle.skew.proofs.skew_byte_fault.Tie as tie
 
 place-fault-requires : tie.Need-place-fault-requires
 place-fault-requires c κs = search needs

@@ -1,4 +1,4 @@
--- `parts::skew_place` meets its contract.
+-- `skew::skew_place` meets its contract.
 -- Assumes nothing.
 use Prim.Native.Nat.{_*_, _<_, _^_}
 use native.Mathlib.Omega.{arith}
@@ -7,9 +7,9 @@ use borrow.Author.Needs.{needs}
 use Rattle.basis.specs.Choice.{pick}
 use Rattle.basis.proofs.Numbers.{product-lt}
 use Rattle.sets.specs.Descriptors.{descriptorPlace}
-use Rattle.parts.specs.Skews.{source, skewPlace}
-use Rattle.parts.proofs.skew_place.Statement.{statement}
-use Rattle.parts.proofs.skew_place.Tie as tie
+use Rattle.skew.specs.Skews.{source, skewPlace}
+use Rattle.skew.proofs.skew_place.Statement.{statement}
+use Rattle.skew.proofs.skew_place.Tie as tie
 
 under : (c : tie.Then1) → c .before .before .before .before .args .t * c .before .before .samples .result < 2 ^ 8 * 2 ^ 40
 under c = let v : c .before .before .before .before .args .t < 2 ^ 8 = search needs in product-lt v (c .before .before .samples .ensures .1)

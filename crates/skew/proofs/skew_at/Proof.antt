@@ -1,10 +1,10 @@
--- `parts::skew_at` meets its contract.
+-- `skew::skew_at` meets its contract.
 -- Assumes nothing.
 use mathlib.Core.Path.{sym, _∙_}
 use borrow.Author.Needs.{needs}
-use Rattle.parts.specs.Skews.{skewAnswer}
-use Rattle.parts.proofs.skew_at.Statement.{statement}
-use Rattle.parts.proofs.skew_at.Tie as tie
+use Rattle.skew.specs.Skews.{skewAnswer}
+use Rattle.skew.proofs.skew_at.Statement.{statement}
+use Rattle.skew.proofs.skew_at.Tie as tie
 
 skew-byte-fault-requires : tie.Need-skew-byte-fault-requires
 skew-byte-fault-requires c κs = search needs
