@@ -20,7 +20,7 @@ use Rattle.header.specs.Faults.{headerFault}
 use Rattle.header.proofs.Sizes.{bits-some, Grouped}
 use Rattle.header.proofs.Accepted.{accepted, multiplexed, types-few, interval-is, first-type, scan-is, scan-in-groups}
 use Rattle.scan.specs.declared.Shape.{Shape as Head}
-use Rattle.scan.specs.Fit.{shapeb, wholeb, limitsb}
+use Rattle.scan.specs.Fit.{shapeb, shapeBy, wholeb, limitsb}
 use Rattle.rules.specs.Scans.{shapeOf}
 use Rattle.agree.specs.Calls.{Bytes}
 use Rattle.agree.proofs.Bytes.{below}
@@ -42,7 +42,7 @@ block-high b h =
 -- a shape of such numbers is fit
 fits-from : (h : Head) → 8 ≤ h .scan → h .scan ≤ 999999 → 0 < groupOf (h .code) → (h .scan - 8) % groupOf (h .code) ≡ 0 → h .code < 0x8000
     → h .advance % 256 ≡ 0 → h .advance ≤ 524288 → 1 ≤ h .types → h .types ≤ 99 → h .block ≤ 8355840 → shapeb h ≡ true
-unfolding shapeb wholeb limitsb _and_
+unfolding shapeb shapeBy wholeb limitsb _and_
 fits-from h a b c d e m f g i j =
     rw (le-leb _ _ a, le-leb _ _ b, lt-ltb _ _ c, eq-eqb _ _ d, lt-ltb _ _ e, eq-eqb _ _ m, le-leb _ _ f, le-leb _ _ g, le-leb _ _ i, le-leb _ _ j)
 

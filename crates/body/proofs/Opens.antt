@@ -24,7 +24,7 @@ use Rattle.header.specs.Faults.{headerFault}
 use Rattle.header.specs.Answers.{headerOf, headerAnswer, answerAfter}
 use Rattle.header.proofs.Accepted.{accepted, multiplexed, types-few, interval-is, scan-is, first-type, scan-in-groups}
 use Rattle.scan.specs.declared.Shape.{Shape}
-use Rattle.scan.specs.Fit.{fitb, countsb, trackb, shapeb, wholeb, limitsb, stopb}
+use Rattle.scan.specs.Fit.{fitb, fitBy, countsb, trackb, shapeb, shapeBy, wholeb, limitsb, stopb}
 use Rattle.body.specs.Open.{shapeOf, fresh, unfit, opened}
 use Rattle.stream.proofs.Readers.{row-some}
 
@@ -55,11 +55,11 @@ exponent-low b h e = subst (λ (x : Header). x .«block_exponent» < 16) (took b
 
 -- the state before the first byte is fit where its shape is; the all-zero one is not
 pub fresh-fit : (h : Shape) → fitb (fresh h) ≡ shapeb h
-unfolding fitb fresh countsb trackb stopb _or_
+unfolding fitb fitBy shapeb fresh countsb trackb stopb _or_
 fresh-fit h = rw (leb·zero (h .types))
 
 pub unfit-not : fitb unfit ≡ false
-unfolding unfit fresh fitb countsb trackb stopb _or_ shapeb _and_
+unfolding unfit fresh fitb fitBy countsb trackb stopb _or_ shapeBy _and_
 unfit-not = refl
 
 -- an accepted header has a fit shape, where the block's numbers are bytes
@@ -85,7 +85,7 @@ module _ (b : List ℕ) (e : headerFault b ≡ Clear) (l : (n : ℕ) → byte b 
   interval-small = let i = interval-is b e in rw (i .is) (pow-mono (i .small))
 
   pub accepted-shape : shapeb (shapeOf (headerOf b)) ≡ true
-  unfolding shapeOf headerOf shapeb wholeb limitsb _and_
+  unfolding shapeOf headerOf shapeb shapeBy wholeb limitsb _and_
   accepted-shape =
       let s = scan-is b e (multiplexed b e) in
       let t = types-few b e in

@@ -56,6 +56,7 @@ unique = record {
   skew-at = λ κ a z z′ e e′. one-answer;
   sample-time = λ κ a z z′ e e′. one-answer;
   fit = λ κ a z z′ e e′. one-answer;
+  fit-by = λ κ a z z′ e e′. one-answer;
   byte-words = λ κ a z z′ e e′. one-within;
   byte-words-content = λ κ a z z′ e e′ p q. one-answer (p .1) (q .1);
   words24 = λ κ a z z′ e e′. one-within;

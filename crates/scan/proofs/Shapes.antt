@@ -10,7 +10,7 @@ use Rattle.basis.proofs.Rules.{tests}
 use Rattle.codes.specs.Codes.{groupOf}
 use Rattle.scan.specs.declared.Shape.{Shape}
 use Rattle.scan.specs.declared.State.{State}
-use Rattle.scan.specs.Fit.{Fit, fitb, countsb, trackb, shapeb, wholeb, limitsb, stopb}
+use Rattle.scan.specs.Fit.{Fit, fitb, fitBy, countsb, trackb, shapeb, shapeBy, wholeb, limitsb, stopb}
 
 pub record Parts (h : Shape) : Type 0 where
   pub scan : 8 ≤ h .scan
@@ -22,7 +22,7 @@ pub record Parts (h : Shape) : Type 0 where
   pub types : h .types ≤ 99
 
 pub shape-parts : (h : Shape) → shapeb h ≡ true → Parts h
-unfolding shapeb wholeb limitsb
+unfolding shapeb shapeBy wholeb limitsb
 shape-parts h e =
     let a = both-true _ _ e in
     let b = both-true _ _ (a .1) in
@@ -44,7 +44,7 @@ shape-parts h e =
     }
 
 pub fit-of : (s : State) → fitb s ≡ true → Fit s
-unfolding fitb countsb trackb
+unfolding fitb fitBy shapeb countsb trackb
 fit-of s h =
     let a = and-true _ (shapeb (s .shape)) h in
     let b = and-true _ (stopb (s .stop)) (a .0) in
@@ -71,5 +71,5 @@ fit-of s h =
     }
 
 pub of-fit : (s : State) → Fit s → fitb s ≡ true
-unfolding fitb countsb trackb
+unfolding fitb fitBy shapeb countsb trackb
 of-fit s f = search (tests, f .stop, f .shape)

@@ -10,9 +10,9 @@ use Rattle.scan.specs.declared.State.{State}
 use Rattle.scan.specs.declared.Shape.{Shape}
 use Rattle.scan.specs.declared.Track.{Track}
 
--- the code has words, and after its start a scan has a whole number of their groups
+-- words stand in groups of w bytes, 0 where there are none, and after its start a scan has a whole number of groups
 unfoldable pub wholeb : ℕ → ℕ → Bool
-wholeb scan code = ltb 0 (groupOf code) and eqb ((scan - 8) % groupOf code) 0
+wholeb scan w = ltb 0 w and eqb ((scan - 8) % w) 0
 
 -- a multiplexed code; an advance in the top three bytes, at most that of I 128; ST/R 1 to 99; S/B x 2^S/BX up to 255 x 2^15
 unfoldable pub limitsb : Shape → Bool
@@ -20,8 +20,12 @@ limitsb h =
     ltb (h .code) 0x8000 && eqb (h .advance % 256) 0 && leb (h .advance) 524288 && leb 1 (h .types) && leb (h .types) 99 && leb (h .block) 8355840
 
 -- bounds that every accepted header keeps to; not every shape within them is a header's
+unfoldable pub shapeBy : Shape → ℕ → Bool
+shapeBy h w = leb 8 (h .scan) and leb (h .scan) 999999 and wholeb (h .scan) w and limitsb h
+
+-- the groups are those of the code
 unfoldable pub shapeb : Shape → Bool
-shapeb h = leb 8 (h .scan) and leb (h .scan) 999999 and wholeb (h .scan) (h .code) and limitsb h
+shapeb h = shapeBy h (groupOf (h .code))
 
 -- no stop, or one of "14 to 18 stop the body"
 unfoldable pub stopb : ℕ → Bool
@@ -35,9 +39,13 @@ trackb k types = leb (k .seen) types && leb (k .itb) 1 && leb (k .twi) 1
 unfoldable pub countsb : State → Bool
 countsb s = leb (s .ends) (s .place) && leb (s .off) (s .place) && leb (s .stopat) (s .place) && leb (s .exponents) 65535
 
+-- everything that a fit state keeps to, its words in groups of w bytes
+unfoldable pub fitBy : State → ℕ → Bool
+fitBy s w = countsb s && trackb (s .track) (s .shape .types) && stopb (s .stop) && shapeBy (s .shape) w
+
 -- the fit states; STATE is for all others
 unfoldable pub fitb : State → Bool
-fitb s = countsb s && trackb (s .track) (s .shape .types) && stopb (s .stop) && shapeb (s .shape)
+fitb s = fitBy s (groupOf (s .shape .code))
 
 -- no second definition: the same as facts for contracts and proofs to cite; `fit-of` and `of-fit` show that it is
 pub record Fit (s : State) : Type 0 where

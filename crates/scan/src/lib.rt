@@ -1,7 +1,7 @@
 // The body reader's state: what the header says of a body, what its scans told so far, and where its reading stands.
 ghost use mathlib.Core.Path.{_≡_};
 ghost use Prim.Native.Nat.{_≤_};
-ghost use Rattle.scan.specs.Fit.{wholeb, limitsb, shapeb, stopb, trackb, countsb, fitb};
+ghost use Rattle.scan.specs.Fit.{wholeb, limitsb, shapeBy, stopb, trackb, countsb, fitBy, fitb};
 use words::Value;
 
 // What the header says of the body.
@@ -59,16 +59,15 @@ pub struct Stepped {
     pub value: Value,
 }
 
-// Whether the code has words, and a scan a whole number of its groups.
-fn whole(scan: u32, code: u16) -> bool
+// Whether there are words, and a scan has a whole number of their groups of w bytes.
+fn whole(scan: u32, w: u32) -> bool
     requires { ⌜ 8 ≤ scan ⌝ }
-    ensures { λ r. ⌜ r ≡ wholeb scan code ⌝ }
+    ensures { λ r. ⌜ r ≡ wholeb scan w ⌝ }
 {
-    let g = codes::group(code);
-    if g == 0 {
+    if w == 0 {
         return false;
     }
-    (scan - 8) % g == 0
+    (scan - 8) % w == 0
 }
 
 // A multiplexed code, and numbers within the bounds of a header's.
@@ -84,8 +83,8 @@ fn limits(h: Shape) -> bool
 }
 
 // What the header says of the body is within its bounds.
-fn shape_fits(h: Shape) -> bool
-    ensures { λ r. ⌜ r ≡ shapeb h ⌝ }
+fn shape_fits(h: Shape, w: u32) -> bool
+    ensures { λ r. ⌜ r ≡ shapeBy h w ⌝ }
 {
     if h.scan < 8 {
         return false;
@@ -93,11 +92,7 @@ fn shape_fits(h: Shape) -> bool
     if 999999 < h.scan {
         return false;
     }
-    if whole(h.scan, h.code) {
-        limits(h)
-    } else {
-        false
-    }
+    if whole(h.scan, w) { limits(h) } else { false }
 }
 
 // No stop, or one of 14 to 18.
@@ -127,9 +122,17 @@ fn counts_fit(s: State) -> bool
     (s.ends <= s.place) & (s.off <= s.place) & (s.stopat <= s.place) & (s.exponents <= 65535)
 }
 
+// Whether a state may be handed in whose words stand in groups of w bytes. A portion goes by groups anyway, and without their
+// table LLVM compiles this test into it.
+pub fn fit_by(s: State, w: u32) -> bool
+    ensures { λ r. ⌜ r ≡ fitBy s w ⌝ }
+{
+    counts_fit(s) & track_fits(s.track, s.shape.types) & stop_fits(s.stop) & shape_fits(s.shape, w)
+}
+
 // Whether a state may be handed in.
 pub fn fit(s: State) -> bool
     ensures { λ r. ⌜ r ≡ fitb s ⌝ }
 {
-    counts_fit(s) & track_fits(s.track, s.shape.types) & stop_fits(s.stop) & shape_fits(s.shape)
+    fit_by(s, codes::group(s.shape.code))
 }

@@ -11,6 +11,7 @@ use words::Value;
 ghost use mathlib.Core.Path.{_≡_};
 ghost use Prim.Native.Nat.{_+_, _*_, _≤_, _<_};
 ghost use lib.ListN.{length, set};
+ghost use Rattle.codes.specs.Codes.{groupOf};
 ghost use Rattle.runs.specs.Runs.{over};
 ghost use Rattle.scan.specs.Fit.{Fit};
 ghost use Rattle.scan.specs.Step.{wrote};
@@ -41,13 +42,12 @@ fn put(out: &mut [i32], n: usize, w: Value)
 }
 
 // The bytes of a portion that has room: a scan's start or whole words at once where they lie ahead, else one byte. `step` is called nowhere else, so that it is compiled into this loop.
-fn feed(s: State, bytes: &[u8], out: &mut [i32]) -> Gave
-    requires { ⌜ Fit s ⌝ }
+fn feed(s: State, w: u32, bytes: &[u8], out: &mut [i32]) -> Gave
+    requires { ⌜ (Fit s) × (groupOf (s .shape .code) ≡ w) ⌝ }
     requires { ⌜ 2 * length (now bytes) ≤ length (now out) ⌝ }
     ensures { λ r. ⌜ r ≡ Calls.fed s (now (bytes .entry)) ⌝ }
     ensures { λ r. ⌜ now (out .exit) ≡ over (wrote s (now (bytes .entry))) (now (out .entry)) ⌝ }
 {
-    let w = codes::group(s.shape.code);
     let mut t = s;
     let mut n: usize = 0;
     let mut i: usize = 0;
@@ -77,8 +77,8 @@ fn feed(s: State, bytes: &[u8], out: &mut [i32]) -> Gave
 }
 
 // An earlier stop, then ROOM.
-pub(crate) fn fit_portion(s: State, bytes: &[u8], out: &mut [i32]) -> Gave
-    requires { ⌜ Fit s ⌝ }
+pub(crate) fn fit_portion(s: State, w: u32, bytes: &[u8], out: &mut [i32]) -> Gave
+    requires { ⌜ (Fit s) × (groupOf (s .shape .code) ≡ w) ⌝ }
     ensures { λ r. ⌜ r ≡ Calls.fitPortion s (now (bytes .entry)) (length (now (out .entry))) ⌝ }
     ensures { λ r. ⌜ now (out .exit) ≡ over (Calls.fitWrote s (now (bytes .entry)) (length (now (out .entry)))) (now (out .entry)) ⌝ }
 {
@@ -95,5 +95,5 @@ pub(crate) fn fit_portion(s: State, bytes: &[u8], out: &mut [i32]) -> Gave
             answer: Answer::Refused(Refusal::Room),
         };
     }
-    feed(s, bytes, out)
+    feed(s, w, bytes, out)
 }

@@ -56,8 +56,9 @@ pub fn portion(s: State, bytes: &[u8], out: &mut [i32]) -> Gave
     ensures { λ r. ⌜ r ≡ Calls.portion s (now (bytes .entry)) (length (now (out .entry))) ⌝ }
     ensures { λ r. ⌜ now (out .exit) ≡ over (Calls.portionWrote s (now (bytes .entry)) (length (now (out .entry)))) (now (out .entry)) ⌝ }
 {
-    if scan::fit(s) {
-        feed::fit_portion(s, bytes, out)
+    let w = codes::group(s.shape.code);
+    if scan::fit_by(s, w) {
+        feed::fit_portion(s, w, bytes, out)
     } else {
         Gave {
             state: s,

@@ -1,4 +1,4 @@
--- `scan::whole` meets its contract: the group is the code's, and its remainder the definition's.
+-- `scan::whole` meets its contract.
 -- Assumes nothing.
 use Prim.Native.Nat.{_<_}
 use Rattle.scan.specs.Fit.{wholeb}
@@ -9,12 +9,9 @@ use borrow.Author.Needs.{needs}
 use Rattle.scan.proofs.whole.Statement.{statement}
 use Rattle.scan.proofs.whole.Tie as tie
 
-group-requires : tie.Need-group-requires
-group-requires c κs = search needs
-
 returns : tie.Need-returns
 unfolding wholeb _and_
-returns c = search (tests, c .if1 .taken, ← c .before .group .ensures)
+returns c = search (tests, c .if1 .taken)
 
 sub-result : tie.Need-sub-result
 sub-result c = search needs
@@ -24,7 +21,7 @@ rem-result c = search needs
 
 returns-2 : tie.Need-returns-2
 unfolding wholeb _and_
-returns-2 c = let g : 0 < c .before .group .result = omega (arith, c .if1 .left) in search (tests, g, ← c .before .group .ensures)
+returns-2 c = let g : 0 < c .before .args .w = omega (arith, c .if1 .left) in search (tests, g)
 
 pub whole-spec : {M : Type 1} → statement M
-whole-spec = tie.close (tie.spec group-requires returns sub-result rem-result returns-2)
+whole-spec = tie.close (tie.spec returns sub-result rem-result returns-2)
