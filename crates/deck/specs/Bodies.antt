@@ -2,8 +2,9 @@
 -- Assumes nothing.
 use Prim.Native.Nat.{ℕ}
 use Rattle.refusals.specs.declared.Told.{Told}
+use Rattle.refusals.specs.declared.Fault.{Fault}
+use Rattle.refusals.specs.declared.Fault.the-variants.{Clear, At}
 use Rattle.refusals.specs.Table.{told}
-use Rattle.scan.specs.declared.State.{State}
 use Rattle.body.specs.declared.Opening.{Opening}
 use Rattle.body.specs.declared.Opening.the-variants as opening
 use Rattle.body.specs.declared.Opened.{Opened}
@@ -20,7 +21,7 @@ use Rattle.body.specs.declared.Closing.{Closing}
 use Rattle.deck.specs.declared.bodies.SegdOpened.{SegdOpened}
 use Rattle.deck.specs.declared.bodies.SegdGave.{SegdGave}
 use Rattle.deck.specs.declared.bodies.SegdClosing.{SegdClosing}
-use Rattle.deck.specs.Flat.{unrefused}
+use Rattle.deck.specs.Flat.{unrefused, flatFault}
 
 -- why an opening is refused, if it is
 abbrev pub flatOpening : Opening → Told
@@ -32,14 +33,27 @@ abbrev pub flatOpened : Opened → SegdOpened
 flatOpened o = record { refusal = flatOpening (o .answer); state = o .state }
 
 -- 0 going on, 1 stopped, 2 refused
-abbrev pub flatBy : State → Answer → SegdGave
-flatBy s (GoingOn n) = record { state = s; outcome = 0; refusal = unrefused; samples = n }
-flatBy s (Stopped n r) = record { state = s; outcome = 1; refusal = told r; samples = n }
-flatBy s (Refused r) = record { state = s; outcome = 2; refusal = told r; samples = 0 }
+abbrev pub outcomeOf : Answer → ℕ
+outcomeOf (GoingOn n) = 0
+outcomeOf (Stopped n r) = 1
+outcomeOf (Refused r) = 2
+
+-- why the body does not go on, if it does not
+abbrev pub answerFault : Answer → Fault
+answerFault (GoingOn n) = Clear
+answerFault (Stopped n r) = At r
+answerFault (Refused r) = At r
+
+-- the samples written
+abbrev pub samplesTold : Answer → ℕ
+samplesTold (GoingOn n) = n
+samplesTold (Stopped n r) = n
+samplesTold (Refused r) = 0
 
 -- a portion or block end, with its state
 abbrev pub flatGave : Gave → SegdGave
-flatGave g = flatBy (g .state) (g .answer)
+flatGave g =
+    record { state = g .state; outcome = outcomeOf (g .answer); refusal = flatFault (answerFault (g .answer)); samples = samplesTold (g .answer) }
 
 -- ITB and the window's T: whether there is one, and which
 abbrev pub itbKnown : Itb → ℕ

@@ -5,6 +5,8 @@ use mathlib.Core.Bool.{Bool}
 use lib.IntN.{pos}
 use Rattle.basis.specs.Choice.{pick}
 use Rattle.refusals.specs.declared.Told.{Told}
+use Rattle.refusals.specs.declared.Fault.{Fault}
+use Rattle.refusals.specs.declared.Fault.the-variants as fault
 use Rattle.refusals.specs.Table.{told}
 use Rattle.codes.specs.declared.Kind.{Kind}
 use Rattle.codes.specs.declared.Kind.the-variants.{OnesComplement, SignMagnitude, Justified}
@@ -22,6 +24,11 @@ flag t = pick t 1 0
 -- no refusal: the number 0, which no row has
 abbrev pub unrefused : Told
 unrefused = record { number = 0; first = 0; second = 0 }
+
+-- a refusal, if there is one
+abbrev pub flatFault : Fault → Told
+flatFault fault.Clear = unrefused
+flatFault (fault.At r) = told r
 
 -- a kind by its number in segd.h
 abbrev pub kindNumber : Kind → ℕ

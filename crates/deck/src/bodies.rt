@@ -5,12 +5,14 @@ ghost use Rattle.runs.specs.Runs.{over};
 ghost use Rattle.body.specs.Open.{opened};
 ghost use Rattle.stream.specs.Calls.{portion, portionWrote};
 ghost use Rattle.body.specs.Ends.{blockEnd, close};
-ghost use Rattle.deck.specs.Bodies.{flatOpened, flatAnswer, flatGave, flatClosing, itbKnown, itbBit, windowKnown, windowAt};
+ghost use Rattle.deck.specs.Bodies.{flatOpened, flatAnswer, outcomeOf, answerFault, samplesTold, flatGave, flatClosing, itbKnown, itbBit, windowKnown, windowAt};
+use crate::flat_fault;
 use crate::unrefused;
 use body::Closed;
 use body::Itb;
 use body::Opening;
 use body::Window;
+use refusals::Fault;
 use refusals::Told;
 use scan::State;
 use stream::Answer;
@@ -51,30 +53,56 @@ pub struct SegdGave {
     pub samples: u64,
 }
 
+fn outcome(answer: Answer) -> u32
+    ensures { λ r. ⌜ r ≡ outcomeOf answer ⌝ }
+{
+    match answer {
+        Answer::GoingOn { samples: _ } => 0,
+        Answer::Stopped {
+            samples: _,
+            refusal: _,
+        } => 1,
+        Answer::Refused(_) => 2,
+    }
+}
+
+fn answer_fault(answer: Answer) -> Fault
+    ensures { λ r. ⌜ r ≡ answerFault answer ⌝ }
+{
+    match answer {
+        Answer::GoingOn { samples: _ } => Fault::Clear,
+        Answer::Stopped {
+            samples: _,
+            refusal,
+        } => Fault::At(refusal),
+        Answer::Refused(r) => Fault::At(r),
+    }
+}
+
+fn samples_told(answer: Answer) -> u64
+    ensures { λ r. ⌜ r ≡ samplesTold answer ⌝ }
+{
+    match answer {
+        Answer::GoingOn { samples } => samples as u64,
+        Answer::Stopped {
+            samples,
+            refusal: _,
+        } => samples as u64,
+        Answer::Refused(_) => 0,
+    }
+}
+
+// By parts, so that the refusal is told at one place: LLVM then compiles this into the calls.
 fn gave(g: Gave) -> SegdGave
     ensures { λ r. ⌜ r ≡ flatGave g ⌝ }
 {
     let answer = g.answer;
     let state = g.state;
-    match answer {
-        Answer::GoingOn { samples } => SegdGave {
-            state,
-            outcome: 0,
-            refusal: unrefused(),
-            samples: samples as u64,
-        },
-        Answer::Stopped { samples, refusal } => SegdGave {
-            state,
-            outcome: 1,
-            refusal: refusals::tell(refusal),
-            samples: samples as u64,
-        },
-        Answer::Refused(r) => SegdGave {
-            state,
-            outcome: 2,
-            refusal: refusals::tell(r),
-            samples: 0,
-        },
+    SegdGave {
+        state,
+        outcome: outcome(answer),
+        refusal: flat_fault(answer_fault(answer)),
+        samples: samples_told(answer),
     }
 }
 

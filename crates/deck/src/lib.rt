@@ -3,9 +3,10 @@
 ghost use mathlib.Core.Path.{_≡_};
 ghost use Rattle.codes.specs.Codes.{rowOf};
 ghost use Rattle.words.specs.Words.{wordOf};
-ghost use Rattle.deck.specs.Flat.{flag, flatFormat, flatWord, kindNumber, unrefused};
+ghost use Rattle.deck.specs.Flat.{flag, flatFault, flatFormat, flatWord, kindNumber, unrefused};
 use codes::Found;
 use codes::Kind;
+use refusals::Fault;
 use refusals::Told;
 use words::Word;
 
@@ -28,6 +29,16 @@ fn unrefused() -> Told
         number: 0,
         first: 0,
         second: 0,
+    }
+}
+
+// A refusal, if there is one.
+fn flat_fault(fault: Fault) -> Told
+    ensures { λ r. ⌜ r ≡ flatFault fault ⌝ }
+{
+    match fault {
+        Fault::Clear => unrefused(),
+        Fault::At(r) => refusals::tell(r),
     }
 }
 
