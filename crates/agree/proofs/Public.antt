@@ -13,6 +13,7 @@ use Rattle.basis.specs.Choice.{pick}
 use Rattle.refusals.specs.declared.Refusal.the-variants.{Room, Block}
 use Rattle.refusals.specs.declared.Fault.{Fault}
 use Rattle.refusals.specs.declared.Fault.the-variants.{Clear, At}
+use Rattle.refusals.specs.Table.{stopRefusal}
 use Rattle.scan.specs.declared.State.{State}
 use Rattle.scan.specs.Step as S
 use Rattle.scan.specs.Fit.{fitb}
@@ -77,7 +78,7 @@ module _ (s : State) (f : fitb s ≡ true) where
   unfolding K.answered pick
   on-answer t n m e = rw e (go (eqb (t .stop) 0))
     where
-      go : (b : Bool) → pick b (A.GoingOn (n / 2)) (A.Stopped (n / 2) (K.stopRefusal (t .stop) (t .stopat))) ≡ answerFrom Clear (pick b Clear (At (K.stopRefusal (t .stop) (t .stopat)))) (n / 2)
+      go : (b : Bool) → pick b (A.GoingOn (n / 2)) (A.Stopped (n / 2) (stopRefusal (t .stop) (t .stopat))) ≡ answerFrom Clear (pick b Clear (At (stopRefusal (t .stop) (t .stopat)))) (n / 2)
       go true = refl
       go false = refl
 
@@ -120,7 +121,7 @@ module _ (s : State) (f : fitb s ≡ true) where
           rw q (off-room z)
 
   pub end-answer : N.blockEnd s .answer ≡ answerFrom (stopIn s) (stopIn (N.blockEnd s .state)) 0
-  unfolding N.oneEnd S.halted K.stopRefusal pick
+  unfolding N.oneEnd S.halted stopRefusal pick
   end-answer = go (eqb (s .stop) 0) (dueIn s) refl refl
     where
       go : (t u : Bool) → eqb (s .stop) 0 ≡ t → dueIn s ≡ u → N.blockEnd s .answer ≡ answerFrom (stopIn s) (stopIn (N.blockEnd s .state)) 0

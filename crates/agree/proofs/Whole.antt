@@ -19,7 +19,7 @@ use Rattle.refusals.specs.declared.Refusal.the-variants.{Block, Part, Open, Mis
 use Rattle.refusals.specs.declared.Fault.{Fault}
 use Rattle.refusals.specs.declared.Fault.the-variants.{Clear, At}
 use Rattle.refusals.specs.Order.{when, orElse}
-use Rattle.refusals.specs.Table.{said}
+use Rattle.refusals.specs.Table.{said, stopRefusal}
 use Rattle.codes.specs.Codes.{groupOf, perOf}
 use Rattle.scan.specs.declared.State.{State}
 use Rattle.scan.specs.declared.Stepped.{Stepped}
@@ -83,8 +83,8 @@ numbered sync = refl
 numbered timing = refl
 numbered phase = refl
 
-again : {p : ℕ} {r : Refusal} → Halts p r → K.stopRefusal (said r .number) p ≡ r
-unfolding K.stopRefusal pick
+again : {p : ℕ} {r : Refusal} → Halts p r → stopRefusal (said r .number) p ≡ r
+unfolding stopRefusal pick
 again long = refl
 again block = refl
 again sync = refl
@@ -96,7 +96,7 @@ same-at e = cc
 
 -- the stop that a state keeps
 abbrev pub stopIn : State → Fault
-stopIn s = pick (eqb (s .stop) 0) Clear (At (K.stopRefusal (s .stop) (s .stopat)))
+stopIn s = pick (eqb (s .stop) 0) Clear (At (stopRefusal (s .stop) (s .stopat)))
 
 -- ---- the closing answer
 itb-told : (sh : Shape) (byte : ℕ → ℕ) (n : ℕ) → 0 < n → I.Bit (itbs (firstItb sh byte n)) ≡ itbOf (firstItb sh byte n)

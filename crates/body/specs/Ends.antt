@@ -6,6 +6,7 @@ use lib.Dec.{eqb, ltb}
 use Rattle.basis.specs.Choice.{pick, _and_, _or_}
 use Rattle.refusals.specs.declared.Refusal.{Refusal}
 use Rattle.refusals.specs.declared.Refusal.the-variants as R
+use Rattle.refusals.specs.Table.{stopRefusal}
 use Rattle.codes.specs.Codes.{groupOf, perOf}
 use Rattle.scan.specs.declared.Shape.{Shape}
 use Rattle.scan.specs.declared.Track.{Track}
@@ -20,7 +21,7 @@ use Rattle.body.specs.declared.Window.the-variants as W
 use Rattle.body.specs.declared.Report.{Report}
 use Rattle.body.specs.declared.Closed.the-variants as C
 use Rattle.body.specs.declared.Closing.{Closing}
-use Rattle.stream.specs.Calls.{stopRefusal, answered, unchanged}
+use Rattle.stream.specs.Calls.{answered, unchanged}
 
 -- "a block end is due after each": after some scans and `part` bytes of the next; a body of one block ends once
 unfoldable pub due : ℕ → ℕ → ℕ → ℕ → Bool

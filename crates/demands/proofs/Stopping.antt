@@ -13,12 +13,13 @@ use Rattle.basis.specs.Choice.{pick}
 use Rattle.basis.proofs.Choices.{pick-both}
 use Rattle.refusals.specs.declared.Refusal.{Refusal}
 use Rattle.refusals.specs.declared.Refusal.the-variants as refusal
+use Rattle.refusals.specs.Table.{stopRefusal}
 use Rattle.scan.specs.declared.State.{State}
 use Rattle.scan.specs.Fit.{fitb}
 use Rattle.scan.specs.Step.{after, wrote, halted}
 use Rattle.stream.specs.declared.Gave.{Gave}
 use Rattle.stream.specs.declared.Answer.the-variants.{GoingOn, Stopped}
-use Rattle.stream.specs.Calls.{portion, fitPortion, fed, portionWrote, fitWrote, answered, unchanged, stopRefusal}
+use Rattle.stream.specs.Calls.{portion, fitPortion, fed, portionWrote, fitWrote, answered, unchanged}
 use Rattle.body.specs.Ends.{blockEnd, ended, oneEnd, due, close, finish, refused}
 use Rattle.stream.proofs.Cuts.{portion-fit}
 use Rattle.body.proofs.BlockEnds.{end-fit}

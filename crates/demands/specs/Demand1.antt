@@ -10,7 +10,7 @@ use lib.ListN.{length}
 use Rattle.refusals.specs.declared.Refusal.{Refusal}
 use Rattle.refusals.specs.declared.Refusal.the-variants as refusal
 use Rattle.scan.specs.declared.State.{State}
-use Rattle.refusals.specs.Table.{said}
+use Rattle.refusals.specs.Table.{said, stopRefusal}
 use Rattle.header.specs.declared.Answer.the-variants.{Refused}
 use Rattle.header.specs.Answers.{headerAnswer}
 use Rattle.scan.specs.Fit.{stopb, fitb}
@@ -63,12 +63,12 @@ pub record Demand1 : Type 2 where
       SameStop (calls.portion s bs room .state) r
   pub stays-after-end : (s : State) (n : ℕ) (r : Refusal) → ends.blockEnd s .answer ≡ Stopped n r → SameStop (ends.blockEnd s .state) r
   -- and so does every fit state that has a stop, wherever it comes from
-  pub stopped : (s : State) → fitb s ≡ true → (s .stop ≡ 0 → ⊥) → SameStop s (calls.stopRefusal (s .stop) (s .stopat))
+  pub stopped : (s : State) → fitb s ≡ true → (s .stop ≡ 0 → ⊥) → SameStop s (stopRefusal (s .stop) (s .stopat))
   -- an unfit state, such as that of a refused opening, is refused by every call
   pub unfit : (s : State) → fitb s ≡ false → Unmoved s
   pub unopened : TurnedAway
   pub shut : (b : List ℕ) (r : Refusal) → headerAnswer b ≡ Refused r → fitb (opened b .state) ≡ false
   -- a stop that a fit state keeps is told by its row's number, with its place
-  pub told : (n place : ℕ) → stopb n ≡ true → (n ≡ 0 → ⊥) → said (calls.stopRefusal n place) ≡ record { number = n; values = place ∷ [] }
+  pub told : (n place : ℕ) → stopb n ≡ true → (n ≡ 0 → ⊥) → said (stopRefusal n place) ≡ record { number = n; values = place ∷ [] }
   -- "A portion needs twice its length in output numbers"
   pub room : (s : State) (bs : List ℕ) (room : ℕ) → fitb s ≡ true → s .stop ≡ 0 → calls.lacksRoom room (length bs) ≡ true → NoTrace s bs room

@@ -4,6 +4,7 @@
 use Rattle.basis.proofs.difference.Reads as basis-difference
 use Rattle.basis.proofs.magnitude.Reads as basis-magnitude
 use Rattle.refusals.proofs.tell.Reads as refusals-tell
+use Rattle.refusals.proofs.stop_refusal.Reads as refusals-stop-refusal
 use Rattle.codes.proofs.find.Reads as codes-find
 use Rattle.codes.proofs.group.Reads as codes-group
 use Rattle.codes.proofs.bits.Reads as codes-bits
@@ -59,7 +60,6 @@ use Rattle.runs.proofs.words48.Reads as runs-words48
 use Rattle.runs.proofs.groups15.Reads as runs-groups15
 use Rattle.runs.proofs.rest15.Reads as runs-rest15
 use Rattle.body.proofs.open.Reads as body-open
-use Rattle.stream.proofs.stop_refusal.Reads as stream-stop-refusal
 use Rattle.stream.proofs.portion.Reads as stream-portion
 use Rattle.body.proofs.block_end.Reads as body-block-end
 use Rattle.body.proofs.close.Reads as body-close
@@ -93,6 +93,7 @@ pub record Unique : Type 0 where
   pub difference : OneAnswer basis-difference.Post
   pub magnitude : OneAnswer basis-magnitude.Post
   pub tell : OneAnswer refusals-tell.Post
+  pub stop-refusal : OneAnswer refusals-stop-refusal.Post
   pub find : OneAnswer codes-find.Post
   pub group : OneAnswer codes-group.Post
   pub bits : OneAnswer codes-bits.Post
@@ -154,7 +155,6 @@ pub record Unique : Type 0 where
   pub rest15 : OneAnswer runs-rest15.Post
   pub rest15-content : OneContent runs-rest15.Post (λ κ e. e .1 .1 .1 .0 .now)
   pub body-open : OneAnswer body-open.Post
-  pub stop-refusal : OneAnswer stream-stop-refusal.Post
   pub portion : OneAnswer stream-portion.Post
   pub portion-content : OneContent stream-portion.Post (λ κ e. e .1 .1 .0 .now)
   pub block-end : OneAnswer body-block-end.Post

@@ -9,13 +9,13 @@ use Rattle.basis.specs.Choice.{pick}
 use Rattle.basis.proofs.Choices.{pick-both}
 use Rattle.refusals.specs.declared.Refusal.{Refusal}
 use Rattle.refusals.specs.declared.Refusal.the-variants.{Long, Block, Sync, Timing, Phase}
+use Rattle.refusals.specs.Table.{stopRefusal}
 use Rattle.scan.specs.declared.State.{State}
 use Rattle.scan.specs.Fit.{fitb}
 use Rattle.rules.specs.Outcome.{Closing, refused, report}
 use Rattle.body.specs.declared.Closed.{Closed}
 use Rattle.body.specs.declared.Closed.the-variants as C
 use Rattle.body.specs.declared.Closing as B
-use Rattle.stream.specs.Calls.{stopRefusal}
 use Rattle.body.specs.Ends as N
 use Rattle.agree.specs.Answers as G
 use Rattle.listing.specs.declared.Outcome.the-variants as O

@@ -2,7 +2,9 @@
 -- Assumes nothing.
 use Prim.Native.Nat.{ℕ}
 use mathlib.Core.List.{List, [], _∷_}
+use lib.Dec.{eqb}
 use lib.ListN.{getD}
+use Rattle.basis.specs.Choice.{pick}
 use Rattle.refusals.specs.declared.Refusal.{Refusal}
 use Rattle.refusals.specs.declared.Told.{Told}
 use Rattle.refusals.specs.declared.Refusal.the-variants.{Short, Format, Demux, Digit, Range, Length, Descriptor, Four, Size, Skew, Index, Sheet, Room, Long, Block, Sync, Timing, Phase, Part, Open, Missing, Large, State}
@@ -45,3 +47,11 @@ said State = row 23 []
 -- the same as three numbers
 abbrev pub told : Refusal → Told
 told r = record { number = said r .number; first = getD (said r .values) 0 0; second = getD (said r .values) 1 0 }
+
+-- "14 to 18 stop the body": the refusal of a stop's number and place; PHASE for 18 and for any number that no stop has
+unfoldable pub stopRefusal : ℕ → ℕ → Refusal
+stopRefusal number place =
+    pick (eqb number 14) (Long place)
+    (pick (eqb number 15) (Block place)
+    (pick (eqb number 16) (Sync place)
+    (pick (eqb number 17) (Timing place) (Phase place))))

@@ -1,6 +1,6 @@
 // What is turned away: the rows of the description's table, by name, each with the values that its row names.
 ghost use mathlib.Core.Path.{_≡_};
-ghost use Rattle.refusals.specs.Table.{told};
+ghost use Rattle.refusals.specs.Table.{told, stopRefusal};
 
 pub enum Refusal {
     Short,
@@ -84,4 +84,23 @@ pub fn tell(refusal: Refusal) -> Told
         Refusal::Large => in_row(22, 0, 0),
         Refusal::State => in_row(23, 0, 0),
     }
+}
+
+// The refusal of a stop, by its number; PHASE for 18 and for any number that no stop has.
+pub fn stop_refusal(number: u32, place: u32) -> Refusal
+    ensures { λ r. ⌜ r ≡ stopRefusal number place ⌝ }
+{
+    if number == 14 {
+        return Refusal::Long { place };
+    }
+    if number == 15 {
+        return Refusal::Block { place };
+    }
+    if number == 16 {
+        return Refusal::Sync { place };
+    }
+    if number == 17 {
+        return Refusal::Timing { place };
+    }
+    Refusal::Phase { place }
 }

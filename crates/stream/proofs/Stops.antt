@@ -10,10 +10,9 @@ use lib.Dec.{eqb, leb}
 use Rattle.basis.specs.Choice.{_and_, _or_}
 use Rattle.basis.proofs.Choices.{both-true}
 use Rattle.refusals.specs.declared.Refusal.{Refusal}
-use Rattle.refusals.specs.Table.{said}
+use Rattle.refusals.specs.Table.{said, stopRefusal}
 use Rattle.scan.specs.Fit.{stopb}
 use Rattle.scan.proofs.Choices.{pick-cases}
-use Rattle.stream.specs.Calls.{stopRefusal}
 
 -- a number that stands for a stop
 stops : (n : ℕ) → stopb n ≡ true → (n ≡ 0 → ⊥) → (14 ≤ n) × (n ≤ 18)

@@ -9,20 +9,13 @@ use lib.ListN.{length}
 use Rattle.basis.specs.Choice.{pick}
 use Rattle.refusals.specs.declared.Refusal.{Refusal}
 use Rattle.refusals.specs.declared.Refusal.the-variants as R
+use Rattle.refusals.specs.Table.{stopRefusal}
 use Rattle.scan.specs.declared.State.{State}
 use Rattle.scan.specs.Fit.{fitb}
 use Rattle.scan.specs.Step.{after, wrote}
 use Rattle.stream.specs.declared.Gave.{Gave}
 use Rattle.stream.specs.declared.Answer.{Answer}
 use Rattle.stream.specs.declared.Answer.the-variants.{GoingOn, Stopped, Refused}
-
--- "14 to 18 stop the body": the refusal of a stop's number and place; PHASE for 18 and for any number that no stop has
-unfoldable pub stopRefusal : ℕ → ℕ → Refusal
-stopRefusal number place =
-    pick (eqb number 14) (R.Long place)
-    (pick (eqb number 15) (R.Block place)
-    (pick (eqb number 16) (R.Sync place)
-    (pick (eqb number 17) (R.Timing place) (R.Phase place))))
 
 -- how many samples were written, M and X each, and whether the body has stopped
 unfoldable pub answered : State → ℕ → Answer

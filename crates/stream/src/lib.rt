@@ -32,25 +32,6 @@ struct Chunk {
     count: usize,
 }
 
-// The refusal of a stop, by its number; PHASE for 18 and for any number that no stop has.
-pub fn stop_refusal(number: u32, place: u32) -> Refusal
-    ensures { λ r. ⌜ r ≡ Calls.stopRefusal number place ⌝ }
-{
-    if number == 14 {
-        return Refusal::Long { place };
-    }
-    if number == 15 {
-        return Refusal::Block { place };
-    }
-    if number == 16 {
-        return Refusal::Sync { place };
-    }
-    if number == 17 {
-        return Refusal::Timing { place };
-    }
-    Refusal::Phase { place }
-}
-
 // A portion of the body's bytes. Each sample that it completes goes to `out`, M and then X.
 pub fn portion(s: State, bytes: &[u8], out: &mut [i32]) -> Gave
     ensures { λ r. ⌜ r ≡ Calls.portion s (now (bytes .entry)) (length (now (out .entry))) ⌝ }

@@ -1,10 +1,10 @@
--- `stream::stop_refusal` meets its contract.
+-- `refusals::stop_refusal` meets its contract.
 -- Assumes nothing.
 use Rattle.basis.specs.Choice.{pick}
 use borrow.Author.Tests.{eq-eqb, ne-eqb}
-use Rattle.stream.specs.Calls.{stopRefusal}
-use Rattle.stream.proofs.stop_refusal.Statement.{statement}
-use Rattle.stream.proofs.stop_refusal.Tie as tie
+use Rattle.refusals.specs.Table.{stopRefusal}
+use Rattle.refusals.proofs.stop_refusal.Statement.{statement}
+use Rattle.refusals.proofs.stop_refusal.Tie as tie
 
 returns : tie.Need-returns
 unfolding stopRefusal pick
