@@ -1,6 +1,6 @@
 // Sample words: the fraction, the exponent and the off-rule mark of a word in each of the six multiplexed codes.
 ghost use mathlib.Core.Path.{_≡_};
-ghost use Prim.Native.Nat.{_<_, _≤_, _^_, _*_, _+_, _-_, _%_};
+ghost use Prim.Native.Nat.{_<_, _≤_, _^_, _*_, _+_, _-_, _/_, _%_};
 ghost use mathlib.Core.Bool.{_&&_, _||_};
 ghost use lib.Dec.{ltb};
 ghost use Rattle.basis.specs.Fields.{field};
@@ -49,17 +49,12 @@ fn bits(word: u32, at: u32, size: u32) -> u32
     (word >> at) & ones(size)
 }
 
-// M of a fraction whose negatives are complemented. Two ways to the same number: where exponents stand apart, Q + S is
-// what the mark of a negative zero wants too; elsewhere that way has LLVM take words by twos and not by fours.
-fn complemented(apart: u32, n: u32, s: u32, q: u32) -> i32
+// M of a fraction whose negatives are complemented: where S is set, Q less n bits that are all set.
+fn complemented(n: u32, s: u32, q: u32) -> i32
     requires { ⌜ (n < 31) × (s < 2) × (q < 2 ^ n) ⌝ }
     ensures { λ r. ⌜ r ≡ signedFraction OnesComplement n s q ⌝ }
 {
-    if apart == 0 {
-        basis::difference(q, s * ones(n))
-    } else {
-        basis::difference(q + s, s * two_to(n))
-    }
+    basis::difference(q, s * ones(n))
 }
 
 // M of a magnitude with a sign: Q less twice itself.
@@ -83,12 +78,12 @@ fn with_sign(n: u32, s: u32, q: u32) -> i32
 }
 
 // M, by how the fraction is kept. No way leaves a branch on a sample's sign, which would be predicted badly.
-fn signed_fraction(kind: Kind, apart: u32, n: u32, s: u32, q: u32) -> i32
+fn signed_fraction(kind: Kind, n: u32, s: u32, q: u32) -> i32
     requires { ⌜ (n < 31) × (s < 2) × (q < 2 ^ n) ⌝ }
     ensures { λ r. ⌜ r ≡ signedFraction kind n s q ⌝ }
 {
     match kind {
-        Kind::OnesComplement => complemented(apart, n, s, q),
+        Kind::OnesComplement => complemented(n, s, q),
         Kind::SignMagnitude => doubled(n, s, q),
         Kind::Justified => with_sign(n, s, q),
     }
@@ -167,7 +162,7 @@ fn sample(
     let s = bits(word, width - apart - 1, 1);
     let e = c + bits(word, spare + n, b - apart);
     let q = bits(word, spare, n);
-    let m = signed_fraction(kind, apart, n, s, q);
+    let m = signed_fraction(kind, n, s, q);
     let x = power(base, bias, n, e);
     let some = (0 < c) | (0 < word);
     let off = off_rule(kind, n, b, some, bits(word, 0, spare), s, e, q);
@@ -244,23 +239,25 @@ pub fn read(code: u16, c: u32, word: u32) -> Value
     as_value(read_word(code, c, word))
 }
 
+// M of an 0015 word, S and Q being one number t of 15 bits: as two's complement it is M, or one less where S is set.
+fn fraction15(s: u32, t: u32) -> i32
+    requires { ⌜ (t < 32768) × (s ≡ t / 16384) ⌝ }
+    ensures { λ r. ⌜ r ≡ signedFraction OnesComplement 14 s (t % 16384) ⌝ }
+{
+    basis::difference((t + 16384) % 32768, 16384) + s as i32
+}
+
 // A word of 0015, with the exponent in the lowest four bits of c.
 pub fn value15(c: u32, word: u16) -> Value
     ensures { λ r. ⌜ r ≡ valueOf 0x0015 (c % 16) word ⌝ }
 {
-    let r = codes::ROW_15;
-    let kind = r.kind;
-    as_value(sample(
-        kind,
-        r.width,
-        r.apart,
-        r.fraction,
-        r.base,
-        r.exponent,
-        r.bias,
-        c % 16,
-        word as u32,
-    ))
+    let w = word as u32;
+    let t = w / 2;
+    Value {
+        m: fraction15(w / 32768, t),
+        x: basis::difference(c % 16, 14),
+        off: (w % 2 == 1) | (t == 32767),
+    }
 }
 
 // A word of 0024.

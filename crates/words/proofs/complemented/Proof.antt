@@ -6,7 +6,7 @@ use native.Mathlib.Omega.{arith}
 use lib.Pow.{pow-mono}
 use Rattle.basis.proofs.Numbers.{difference-is}
 use Rattle.words.specs.Words.{signedFraction}
-use Rattle.words.proofs.Signs.{by-ones, by-complement, below}
+use Rattle.words.proofs.Signs.{by-ones, below}
 use borrow.Author.Needs.{needs}
 use Rattle.words.proofs.complemented.Statement.{statement}
 use Rattle.words.proofs.complemented.Tie as tie
@@ -24,56 +24,21 @@ ones-requires c κs = search needs
 
 mul-difference : tie.Need-mul-difference
 mul-difference c =
-    let a = c .before .before .args in
-    let f = c .before .before .pre in
+    let a = c .before .args in
+    let f = c .before .pre in
     rw (c .ones .ensures) (omega (arith, below (a .s) (2 ^ a .n - 1) (f .1) (less-room (f .0))))
 
 difference-requires : tie.Need-difference-requires
 difference-requires c κs = search needs
 
-add-difference : tie.Need-add-difference
-add-difference c = omega (arith, room (c .before .pre .0))
-
-two-to-requires : tie.Need-two-to-requires
-two-to-requires c κs = search needs
-
-mul-difference-2 : tie.Need-mul-difference-2
-mul-difference-2 c =
-    let a = c .before .before .args in
-    let f = c .before .before .pre in
-    rw (c .two-to .ensures) (omega (arith, below (a .s) (2 ^ a .n) (f .1) (room (f .0))))
-
-difference-requires-2 : tie.Need-difference-requires-2
-difference-requires-2 c κs = search needs
-
 returns : tie.Need-returns
 unfolding signedFraction
 returns c =
-    let a = c .before .before .before .args in
-    let f = c .before .before .before .pre in
+    let a = c .before .before .args in
+    let f = c .before .before .pre in
     search needs ∙ c .difference .ensures ∙ rw (c .before .ones .ensures) (
     difference-is (omega (arith, room (f .0))) (below (a .s) (2 ^ a .n - 1) (f .1) (less-room (f .0))) ∙ by-ones (a .s) (a .q) (2 ^ a .n) (f .1) (f .2)
     )
 
-returns-2 : tie.Need-returns-2
-unfolding signedFraction
-returns-2 c =
-    let a = c .before .before .before .args in
-    let f = c .before .before .before .pre in
-    search needs ∙ c .difference2 .ensures ∙ rw (c .before .two-to .ensures) (
-    difference-is (omega (arith, room (f .0))) (below (a .s) (2 ^ a .n) (f .1) (room (f .0))) ∙ by-complement (a .s) (a .q) (2 ^ a .n) (f .1) (f .2)
-    )
-
 pub complemented-spec : {M : Type 1} → statement M
-complemented-spec =
-    tie.close
-    (tie.spec
-    ones-requires
-    mul-difference
-    difference-requires
-    add-difference
-    two-to-requires
-    mul-difference-2
-    difference-requires-2
-    returns
-    returns-2)
+complemented-spec = tie.close (tie.spec ones-requires mul-difference difference-requires returns)
