@@ -58,6 +58,7 @@ unique = record {
   sample-time = λ κ a z z′ e e′. one-answer;
   fit = λ κ a z z′ e e′. one-answer;
   fit-by = λ κ a z z′ e e′. one-answer;
+  four-at = λ κ a z z′ e e′. one-answer;
   byte-words = λ κ a z z′ e e′. one-within;
   byte-words-content = λ κ a z z′ e e′ p q. one-answer (p .1) (q .1);
   words24 = λ κ a z z′ e e′. one-within;

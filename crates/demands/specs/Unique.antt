@@ -53,6 +53,7 @@ use Rattle.skew.proofs.skew_at.Reads as skew-skew-at
 use Rattle.skew.proofs.sample_time.Reads as skew-sample-time
 use Rattle.scan.proofs.fit.Reads as scan-fit
 use Rattle.scan.proofs.fit_by.Reads as scan-fit-by
+use Rattle.runs.proofs.four_at.Reads as runs-four-at
 use Rattle.runs.proofs.byte_words.Reads as runs-byte-words
 use Rattle.runs.proofs.words24.Reads as runs-words24
 use Rattle.runs.proofs.words44.Reads as runs-words44
@@ -142,6 +143,7 @@ pub record Unique : Type 0 where
   pub sample-time : OneAnswer skew-sample-time.Post
   pub fit : OneAnswer scan-fit.Post
   pub fit-by : OneAnswer scan-fit-by.Post
+  pub four-at : OneAnswer runs-four-at.Post
   pub byte-words : OneAnswer runs-byte-words.Post
   pub byte-words-content : OneContent runs-byte-words.Post (λ κ e. e .1 .1 .0 .now)
   pub words24 : OneAnswer runs-words24.Post

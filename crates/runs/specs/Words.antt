@@ -1,12 +1,19 @@
--- Word k, from 0, of whole words or groups that stand one after another in some bytes, and how many there are.
+-- Word k, from 0, of whole words or groups that stand one after another in some bytes, and how many there are; four bytes by themselves.
 -- Assumes nothing.
 use Prim.Native.Nat.{ℕ, _+_, _-_, _*_, _/_, _%_}
 use mathlib.Core.List.{List}
+use lib.Dec.{leb}
+use lib.ListN.{length}
+use Rattle.basis.specs.Choice.{pick}
 use Rattle.basis.specs.Digits.{written, byteIn}
 use Rattle.basis.specs.Fields.{field}
 use Rattle.words.specs.declared.Value.{Value}
 use Rattle.words.specs.Words.{valueOf}
 use Rattle.entries.specs.Entries.{byteCode}
+
+-- the four bytes from i on, as one number; 0 where they are not all there
+unfoldable pub fourAt : List ℕ → ℕ → ℕ
+fourAt bs i = pick (leb (i + 4) (length bs)) (written 256 (byteIn bs) i 4) 0
 
 -- the words of w bytes that so many bytes hold
 unfoldable pub wordsIn : ℕ → ℕ → ℕ

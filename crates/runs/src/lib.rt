@@ -5,7 +5,7 @@ ghost use lib.ListN.{length, set};
 ghost use Rattle.basis.specs.Digits.{written, byteIn};
 ghost use Rattle.words.specs.Words.{valueOf, offOne};
 ghost use Rattle.entries.specs.Entries.{byteCode};
-ghost use Rattle.runs.specs.Words.{wordsIn, groupedIn, groupExponent, groupWord, byteValue, plainValue, groupedValue, restValue};
+ghost use Rattle.runs.specs.Words.{fourAt, wordsIn, groupedIn, groupExponent, groupWord, byteValue, plainValue, groupedValue, restValue};
 ghost use Rattle.runs.specs.Runs.{offs, numbers, over, ran, filled};
 use words::Value;
 
@@ -91,6 +91,19 @@ fn big4(bytes: &[u8], i: usize) -> u32
     ensures { λ r. ⌜ r ≡ written 256 (byteIn (now (bytes .entry))) i 4 ⌝ }
 {
     swapped4(little4(bytes, i))
+}
+
+// The same of any bytes and place; 0 where they are not all there.
+pub fn four_at(bytes: &[u8], i: usize) -> u32
+    ensures { λ r. ⌜ r ≡ fourAt (now (bytes .entry)) i ⌝ }
+{
+    if bytes.len() < 4 {
+        return 0;
+    }
+    if bytes.len() - 4 < i {
+        return 0;
+    }
+    big4(bytes, i)
 }
 
 // Off-rule words of one byte, with one word more.

@@ -7,8 +7,10 @@ use native.Mathlib.Nat.{mod-eq-of-lt, add-suc, add-zero}
 use native.Mathlib.Omega.{arith}
 use lib.ListN.{length, getD}
 use Rattle.basis.specs.Digits.{written, byteIn}
+use Rattle.runs.specs.Words.{fourAt}
+use Rattle.runs.proofs.Bytes.{four-there}
 use Rattle.scan.specs.Step.{shift, low}
-use Rattle.stream.specs.Bulk.{lastFour, heldAt}
+use Rattle.stream.specs.Bulk.{heldAt}
 
 -- the last m + 1 of four bytes are the last m of those before, and the new one
 shift-low : (m x b : ℕ) → m ≤ 3 → b < 256 → low (shift x b) (suc m) ≡ low x m * 256 + b
@@ -33,11 +35,11 @@ module _ (bs : List ℕ) (h : ℕ) (l : (i : ℕ) → getD bs i 0 < 256) where
   all-four (suc i) k = mod-eq-of-lt (omega (arith, l i))
 
   -- all four, once four have gone by
-  pub held-four : 4 ≤ length bs → heldAt bs h (length bs) ≡ lastFour bs
-  unfolding lastFour
+  pub held-four : 4 ≤ length bs → heldAt bs h (length bs) ≡ fourAt bs (length bs - 4)
   held-four k =
       let e : length bs - 4 + 4 ≡ length bs = omega arith in
       sym (all-four (length bs) (omega arith)) ∙ (rw e at (held-low (length bs - 4) 4 (omega arith)))
+      ∙ sym (four-there bs (length bs - 4) (omega arith))
 
 -- two and four bytes, shifted in one after another; of four nothing is left that was there before
 module _ (bs : List ℕ) (l : (i : ℕ) → getD bs i 0 < 256) where

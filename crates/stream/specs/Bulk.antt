@@ -54,10 +54,6 @@ valueIn code w g e = pick (eqb w 10) (pick (eqb g 0) (groupedValue code) (restVa
 unfoldable pub wordsOf : ℕ → ℕ → ℕ → ℕ
 wordsOf w g = pick (eqb w 10) (pick (eqb g 0) groupedIn (wordsIn 2)) (wordsIn w)
 
--- the last four bytes
-unfoldable pub lastFour : List ℕ → ℕ
-lastFour bs = written 256 (byteIn bs) (length bs - 4) 4
-
 -- the last four bytes after the first i of some, h being those before
 abbrev pub heldAt : List ℕ → ℕ → ℕ → ℕ
 heldAt bs h zero = h

@@ -6,38 +6,18 @@ use scan::State;
 ghost use mathlib.Core.Path.{_≡_};
 ghost use Prim.Native.Nat.{_+_, _-_, _*_, _%_, _≤_, _<_};
 ghost use lib.ListN.{length, take, drop};
-ghost use Rattle.basis.specs.Digits.{written, byteIn};
 ghost use Rattle.codes.specs.Codes.{groupOf};
 ghost use Rattle.runs.specs.Runs as Runs;
 ghost use Rattle.scan.specs.Fit.{Fit};
 ghost use Rattle.scan.specs.Step.{wrote};
 ghost use Rattle.stream.specs.Bulk as Bulk;
 
-// The four bytes from k on.
-pub(crate) fn big4(bytes: &[u8], k: usize) -> u32
-    requires { ⌜ k + 4 ≤ length (now bytes) ⌝ }
-    ensures { λ r. ⌜ r ≡ written 256 (byteIn (now (bytes .entry))) k 4 ⌝ }
-{
-    let a = shift(0, bytes[k]);
-    let b = shift(a, bytes[k + 1]);
-    let c = shift(b, bytes[k + 2]);
-    shift(c, bytes[k + 3])
-}
-
-// The last four of these bytes.
-fn last_four(bytes: &[u8]) -> u32
-    requires { ⌜ 4 ≤ length (now bytes) ⌝ }
-    ensures { λ r. ⌜ r ≡ Bulk.lastFour (now (bytes .entry)) ⌝ }
-{
-    big4(bytes, bytes.len() - 4)
-}
-
 // The last four bytes, after these.
 fn held_after(held: u32, bytes: &[u8]) -> u32
     ensures { λ r. ⌜ r ≡ Bulk.heldAt (now (bytes .entry)) held (length (now (bytes .entry))) ⌝ }
 {
     if 4 <= bytes.len() {
-        return last_four(bytes);
+        return runs::four_at(bytes, bytes.len() - 4);
     }
     if bytes.len() == 0 {
         return held;

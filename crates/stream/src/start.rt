@@ -1,7 +1,6 @@
 // A scan's start: its eight bytes at once, where they are all there and none of them stops the body.
 use crate::Chunk;
 use crate::bulk::ahead;
-use crate::bulk::big4;
 use crate::bulk::run_at;
 use crate::byte::full;
 use crate::byte::instep;
@@ -28,7 +27,7 @@ fn seventh(s: State, bytes: &[u8], i: usize) -> State
     let mut t = s;
     t.place = s.place + 7;
     t.track = typed(s.track, bytes[i + 3]);
-    t.held = big4(bytes, i + 3);
+    t.held = runs::four_at(bytes, i + 3);
     t
 }
 

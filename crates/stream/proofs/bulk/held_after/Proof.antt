@@ -9,13 +9,16 @@ use borrow.Author.Needs.{needs}
 use Rattle.stream.proofs.bulk.held_after.Statement.{statement}
 use Rattle.stream.proofs.bulk.held_after.Tie as tie
 
-last-four-requires : tie.Need-last-four-requires
-last-four-requires c κs = search needs
+sub-four-at : tie.Need-sub-four-at
+sub-four-at c = search needs
+
+four-at-requires : tie.Need-four-at-requires
+four-at-requires c κs = search needs
 
 returns : tie.Need-returns
 returns c =
     let z = c .before .before .before in
-    c .last-four .ensures ∙ sym (held-four (now (z .args .bytes)) (z .args .held) (λ i. omega (arith, c .before .before .shared-slice-known .given i)) (c .before .if1 .taken))
+    c .four-at .ensures ∙ sym (held-four (now (z .args .bytes)) (z .args .held) (λ i. omega (arith, c .before .before .shared-slice-known .given i)) (c .before .if1 .taken))
 
 returns-2 : tie.Need-returns-2
 returns-2 c = rw (c .if2 .taken)
@@ -50,4 +53,4 @@ returns-5 c =
     rw (three, ← c .before .before .before .before .before .before .shift .ensures, ← c .before .before .before .shift2 .ensures) (c .shift3 .ensures)
 
 pub held-after-spec : {M : Type 1} → statement M
-held-after-spec = tie.close (tie.spec last-four-requires returns returns-2 shared-slice-read-shift shift-requires returns-3 shared-slice-read-shift-2 shift-requires-2 returns-4 shared-slice-read-shift-3 shift-requires-3 returns-5)
+held-after-spec = tie.close (tie.spec sub-four-at four-at-requires returns returns-2 shared-slice-read-shift shift-requires returns-3 shared-slice-read-shift-2 shift-requires-2 returns-4 shared-slice-read-shift-3 shift-requires-3 returns-5)

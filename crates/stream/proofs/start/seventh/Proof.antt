@@ -1,5 +1,9 @@
 -- `stream::start::seventh` meets its contract.
 -- Assumes nothing.
+use Prim.Native.Nat.{_+_}
+use native.Mathlib.Omega.{arith}
+use denote.Ref.{now}
+use Rattle.runs.proofs.Bytes.{four-there}
 use Rattle.scan.specs.Step.{movedBy}
 use Rattle.stream.specs.Starts.{seventh}
 use borrow.Author.Needs.{needs}
@@ -18,15 +22,17 @@ shared-slice-read-typed c = search needs
 typed-requires : tie.Need-typed-requires
 typed-requires c κs = search needs
 
-add-big4 : tie.Need-add-big4
-add-big4 c = search needs
+add-four-at : tie.Need-add-four-at
+add-four-at c = search needs
 
-big4-requires : tie.Need-big4-requires
-big4-requires c κs = search needs
+four-at-requires : tie.Need-four-at-requires
+four-at-requires c κs = search needs
 
 returns : tie.Need-returns
 unfolding seventh movedBy
-returns c = rw (c .big4 .ensures, c .before .typed .ensures)
+returns c =
+    let z = c .before .before .before .before .before in
+    rw (c .four-at .ensures, four-there (now (z .args .bytes)) (z .args .i + 3) (omega arith), c .before .typed .ensures)
 
 pub seventh-spec : {M : Type 1} → statement M
 seventh-spec =
@@ -36,6 +42,6 @@ seventh-spec =
     add-typed
     shared-slice-read-typed
     typed-requires
-    add-big4
-    big4-requires
+    add-four-at
+    four-at-requires
     returns)
