@@ -2,7 +2,6 @@
 
 mod answers;
 mod check;
-mod handed;
 mod measure;
 mod ours;
 mod reader;
@@ -10,8 +9,6 @@ mod record;
 mod runs;
 mod words;
 
-use handed::Handed;
-use reader::Reader;
 use record::{tape_code, Plan, Record, CODES, NARROW, WIDE};
 use std::io::BufRead;
 
@@ -97,26 +94,9 @@ fn check() -> bool {
     failed == 0
 }
 
-/// Prints both readers' times in the shortest portions, with the state of Rust's handed in and out by value, as ours is.
-fn handed() {
-    println!("\nnanoseconds a byte in portions of 512 B: ours, Rust's with its state by value, and ours by that");
-    println!("| code | B | body | ours | Rust | |");
-    println!("|---|---|---|---|---|---|");
-    for plan in plans(LONG_BODY, BLOCK) {
-        let record = plan.record(1);
-        let form = if plan.block_bytes == 0 { "one block" } else { "gapped" };
-        let [ours, theirs] = measure::time(Handed(Reader::new(record.shape)), &record, PORTIONS[0]);
-        let (code, scan, ratio) = (tape_code(plan.code), plan.scan(), ours / theirs);
-        println!("| {code:04X} | {scan} | {form} | {ours:.2} | {theirs:.2} | {ratio:.2} |");
-    }
-}
-
-/// Prints both tables of times.
+/// Prints the table of times.
 fn time() {
-    table("nanoseconds", |record, portion| {
-        measure::time(Reader::new(record.shape), record, portion)
-    });
-    handed();
+    table("nanoseconds", measure::time);
 }
 
 /// The counts on standard input, one to a line, in the order of `once`.

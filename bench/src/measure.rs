@@ -66,8 +66,9 @@ fn nanoseconds_per_byte<R: Reading>(
 }
 
 /// Nanoseconds for a byte of both readers, ours first.
-pub fn time(theirs: impl Reading, record: &Record, portion: usize) -> [f64; 2] {
+pub fn time(record: &Record, portion: usize) -> [f64; 2] {
     let ours = Ours::open(&record.header);
+    let theirs = Reader::new(record.shape);
     let mut out = output(portion);
     let mut best = [f64::INFINITY; 2];
     for _ in 0..ROUNDS {

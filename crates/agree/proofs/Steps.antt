@@ -48,8 +48,8 @@ module _ (byte : ℕ → ℕ) (k : Plan) (pos : 0 < width k) (some : 0 < per k) 
   haltAt r i p = S.halted (form byte k i p) (said r .number)
 
   pub data Hop (i s p : ℕ) (t : Stepped) : Type 0 where
-    on : byteFault (shapeIn k) byte i s p ≡ Clear → t .state ≡ form byte k i (suc p) → outAt p ++ S.pair t ≡ outAt (suc p) → Hop i s p t
-    off : (r : Refusal) → byteFault (shapeIn k) byte i s p ≡ At r → t .state ≡ haltAt r i p → S.pair t ≡ [] → Hop i s p t
+    on : byteFault (shapeIn k) byte i s p ≡ Clear → t .state ≡ form byte k i (suc p) → outAt p ++ S.mAndX t ≡ outAt (suc p) → Hop i s p t
+    off : (r : Refusal) → byteFault (shapeIn k) byte i s p ≡ At r → t .state ≡ haltAt r i p → S.mAndX t ≡ [] → Hop i s p t
 
   module _ (p : ℕ) where
     abbrev j : ℕ
@@ -100,13 +100,13 @@ module _ (byte : ℕ → ℕ) (k : Plan) (pos : 0 < width k) (some : 0 < per k) 
     -- a byte that completes no sample
     quietly : (i s : ℕ) (t : Track) (e : ℕ) → byteFault (shapeIn k) byte i s p ≡ Clear → t ≡ trackAt byte k j (suc r) → e ≡ exps byte k (suc p)
         → samplesIn k j (suc r) ≡ samplesIn k j r → Hop i s p (S.still (S.moved (form byte k i p) t e (form byte k i p .off) (byte p)))
-    unfolding S.still S.pair pick
+    unfolding S.still S.mAndX pick
     quietly i s t e f a b n =
         on f (goes i t e (form byte k i p .off) a b (ap (sumUpto (offAt (shapeIn k) byte)) (sym n)))
         (append-nil (outAt p) ∙ ap (listUpto (numbersAt (shapeIn k) byte)) (silent n))
 
     halts : (i s : ℕ) (q : Refusal) → byteFault (shapeIn k) byte i s p ≡ At q → Hop i s p (S.halt (form byte k i p) (said q .number))
-    unfolding S.halt S.still S.pair pick
+    unfolding S.halt S.still S.mAndX pick
     halts i s q f = off q f refl refl
 
     -- ---- the parts of a scan
@@ -206,7 +206,7 @@ module _ (byte : ℕ → ℕ) (k : Plan) (pos : 0 < width k) (some : 0 < per k) 
 
       sampled : (w : Value) → 8 ≤ r → leadEnd byte k r ≡ false → samplesIn k j (suc r) ≡ suc (samplesIn k j r)
           → w ≡ valueAt (shapeIn k) byte (samplesIn k j r) → Hop i s p (S.sample (form byte k i p) w (byte p))
-      unfolding S.sample S.pair pick offAt numbersAt upto
+      unfolding S.sample S.mAndX pick offAt numbersAt upto
       sampled w u e n v =
           on (fine u) (goes i (trackAt byte k j r) (exps byte k p) _ (sym (track-still byte k j r (λ x. omega arith) (λ x. omega arith))) (no-lead e)
           (rw (n, v)))

@@ -44,7 +44,7 @@ use Rattle.refusals.proofs.Clears.{clear-at}
 use Rattle.rules.proofs.Tapes.{size-last}
 use Rattle.rules.proofs.Laws.{Halts, long, block, sync, timing, phase, halts-at, byte-halts, end-halts, stop-halts}
 use Rattle.rules.proofs.Machine.{Run, Still, Follows, feed, pieces, uncut, pieces-uncut, Ran, went, fell, ran-all}
-use Rattle.agree.specs.Answers.{itbOf, windowOf, closedOf}
+use Rattle.agree.specs.Answers.{itbGiven, windowGiven, closedOf}
 use Rattle.agree.proofs.Plans.{Plan, per, width, group, scan, samples, shapeIn, Kind, singles, fours, none-yet, before-is}
 use Rattle.agree.proofs.Form.{headOf, itbs, twis, wins, form, exps, Begun, sole, many, Inv}
 use Rattle.agree.proofs.Steps.{outAt, haltAt, Hop, on, off, step-hop}
@@ -55,7 +55,7 @@ abbrev pub stepOf : State → ℕ → State
 stepOf s b = S.step s b .state
 
 abbrev pub emitOf : State → ℕ → List ℤ
-emitOf s b = S.pair (S.step s b)
+emitOf s b = S.mAndX (S.step s b)
 
 abbrev pub endOf : State → State
 endOf s = N.ended s .state
@@ -99,11 +99,11 @@ abbrev pub stopIn : State → Fault
 stopIn s = pick (eqb (s .stop) 0) Clear (At (stopRefusal (s .stop) (s .stopat)))
 
 -- ---- the closing answer
-itb-told : (sh : Shape) (byte : ℕ → ℕ) (n : ℕ) → 0 < n → I.Bit (itbs (firstItb sh byte n)) ≡ itbOf (firstItb sh byte n)
+itb-told : (sh : Shape) (byte : ℕ → ℕ) (n : ℕ) → 0 < n → I.Bit (itbs (firstItb sh byte n)) ≡ itbGiven (firstItb sh byte n)
 itb-told sh byte zero l = absurd (omega arith)
 itb-told sh byte (suc n) l = refl
 
-window-told : (w : Option ℕ) → _≡_ {A = Window} (pick (eqb (twis w) 0) W.None (W.At (wins w / 256))) (windowOf w)
+window-told : (w : Option ℕ) → _≡_ {A = Window} (pick (eqb (twis w) 0) W.None (W.At (wins w / 256))) (windowGiven w)
 unfolding pick
 window-told none = refl
 window-told (some t) = let e : t * 256 / 256 ≡ t = omega arith in rw e
@@ -128,12 +128,12 @@ module _ (k : Plan) (pos : 0 < width k) (some : 0 < per k) (kind : Kind k) (type
   hop i s p h = step-hop (byteAt d) k pos some small p kind i s h
 
   stays : (i p q : ℕ) (r : Refusal) → Halts q r → Still stepOf emitOf endOf (halted r i p)
-  unfolding S.still S.pair S.halted pick
+  unfolding S.still S.mAndX S.halted pick
   stays i p q r h =
       let s : State = halted r i p in
       record {
         steps = λ b. ap (λ (t : Stepped). t .state) (step-stopped s b (numbered h));
-        emits = λ b. ap S.pair (step-stopped s b (numbered h));
+        emits = λ b. ap S.mAndX (step-stopped s b (numbered h));
         closes = ap (λ (t : Gave). t .state) (stopped-end s (numbered h));
       }
 

@@ -44,13 +44,13 @@ answerTo sh cs (put bs room) = pick (lacksRoom room (length bs)) (roomAnswer (st
 answerTo sh cs end = takenAnswer sh cs end
 
 -- ITB and the window's T, as the reader gives them
-abbrev pub itbOf : Option ℕ → Itb
-itbOf none = I.None
-itbOf (some bit) = I.Bit bit
+abbrev pub itbGiven : Option ℕ → Itb
+itbGiven none = I.None
+itbGiven (some bit) = I.Bit bit
 
-abbrev pub windowOf : Option ℕ → Window
-windowOf none = W.None
-windowOf (some t) = W.At t
+abbrev pub windowGiven : Option ℕ → Window
+windowGiven none = W.None
+windowGiven (some t) = W.At t
 
 -- the closing answer, as the reader gives it
 abbrev pub closedOf : Closing → B.Closing
@@ -58,5 +58,5 @@ closedOf (refused r) = N.refused r
 closedOf (report t) =
     record {
       answer = C.Whole;
-      report = record { scans = t .scans; samples = t .samples; off = t .off; «last_type» = t .lastType; itb = itbOf (t .itb); window = windowOf (t .window) };
+      report = record { scans = t .scans; samples = t .samples; off = t .off; «last_type» = t .lastType; itb = itbGiven (t .itb); window = windowGiven (t .window) };
     }

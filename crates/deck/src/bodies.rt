@@ -106,7 +106,7 @@ fn gave(g: Gave) -> SegdGave
     }
 }
 
-// `out` has two numbers for each byte of the portion, or more.
+// Where `out` has fewer than two numbers for each byte of the portion, it is refused (ROOM).
 #[no_mangle]
 pub extern "C" fn segd_portion(state: State, bytes: &[u8], out: &mut [i32]) -> SegdGave
     ensures { λ r. ⌜ r ≡ flatGave (portion state (now (bytes .entry)) (length (now (out .entry)))) ⌝ }

@@ -15,7 +15,6 @@ use layout::Index;
 use layout::Place;
 use refusals::Fault;
 use refusals::Told;
-use sets::samples_before;
 use skew::Skewed;
 use skew::Timed;
 
@@ -154,7 +153,7 @@ pub extern "C" fn segd_skew(block: &[u8], sheet: &[u8], scan_type: u32) -> SegdS
     match fault {
         Fault::Clear => {
             let t = (scan_type - 1) as u8;
-            let samples = samples_before(block, t, pair_at(block, 29));
+            let samples = sets::samples(block, t);
             SegdSkew {
                 refusal: unrefused(),
                 of_sheet: flag_of(pair_at(block, 30) == 0),

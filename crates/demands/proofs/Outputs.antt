@@ -16,11 +16,12 @@ use Rattle.runs.specs.Runs.{over}
 use Rattle.scan.specs.declared.State.{State}
 use Rattle.scan.specs.declared.Stepped.{Stepped}
 use Rattle.scan.specs.Fit.{fitb}
-use Rattle.scan.specs.Step.{after, wrote, step, pair}
+use Rattle.scan.specs.Step.{after, wrote, step, mAndX}
 use Rattle.stream.specs.declared.Answer.{Answer}
 use Rattle.stream.specs.Calls.{portion, fitPortion, fed, unchanged, portionWrote, fitWrote, answered, lacksRoom}
 use Rattle.stream.proofs.Cuts.{cut-state, cut-wrote}
-use Rattle.demands.specs.Demand3.{TwoAreOne, samplesIn, Output}
+use Rattle.deck.specs.Bodies.{samplesTold}
+use Rattle.demands.specs.Demand3.{TwoAreOne, Output}
 
 -- ---- two portions are one, of every state: an unfit one stays as it is
 still : (s : State) (bs : List ℕ) (room : ℕ) → fitb s ≡ false → portion s bs room .state ≡ s
@@ -49,8 +50,8 @@ two-are-one s a b m n k ha hb h = go (fitb s) refl
     }
 
 -- ---- two numbers are written for each sample that is answered
-two-more : (r : Stepped) (w : List ℤ) → length w % 2 ≡ 0 → length (pair r ++ w) % 2 ≡ 0
-unfolding pair
+two-more : (r : Stepped) (w : List ℤ) → length w % 2 ≡ 0 → length (mAndX r ++ w) % 2 ≡ 0
+unfolding mAndX
 two-more r w e = pick-both (λ (l : List ℤ). length (l ++ w) % 2 ≡ 0) (r .completed) (omega (arith, e)) e
 
 even : (s : State) (bs : List ℕ) → length (wrote s bs) % 2 ≡ 0
@@ -58,15 +59,15 @@ unfolding wrote
 even s [] = refl
 even s (b ∷ bs) = two-more (step s b) (wrote (step s b .state) bs) (even (step s b .state) bs)
 
-said : (s : State) (k : ℕ) → samplesIn (answered s k) ≡ k / 2
+said : (s : State) (k : ℕ) → samplesTold (answered s k) ≡ k / 2
 unfolding answered
-said s k = pick-both (λ (a : Answer). samplesIn a ≡ k / 2) (eqb (s .stop) 0) refl refl
+said s k = pick-both (λ (a : Answer). samplesTold a ≡ k / 2) (eqb (s .stop) 0) refl refl
 
-counts : (s : State) (bs : List ℕ) (room : ℕ) → length (portionWrote s bs room) ≡ 2 * samplesIn (portion s bs room .answer)
+counts : (s : State) (bs : List ℕ) (room : ℕ) → length (portionWrote s bs room) ≡ 2 * samplesTold (portion s bs room .answer)
 unfolding portion fitPortion fed unchanged portionWrote fitWrote pick
 counts s bs room = go (fitb s) (eqb (s .stop) 0) (ltb room (2 * length bs)) refl refl refl
   where
-    go : (f z l : Bool) → fitb s ≡ f → eqb (s .stop) 0 ≡ z → ltb room (2 * length bs) ≡ l → length (portionWrote s bs room) ≡ 2 * samplesIn (portion s bs room .answer)
+    go : (f z l : Bool) → fitb s ≡ f → eqb (s .stop) 0 ≡ z → ltb room (2 * length bs) ≡ l → length (portionWrote s bs room) ≡ 2 * samplesTold (portion s bs room .answer)
     go false z l f e h = rw f
     go true false l f e h = rw (f, e, said s 0)
     go true true true f e h = rw (f, e, h)

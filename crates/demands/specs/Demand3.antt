@@ -10,8 +10,7 @@ use Rattle.basis.specs.Digits.{written}
 use Rattle.codes.specs.Codes.{leadOf, wordBytesOf}
 use Rattle.scan.specs.declared.State.{State}
 use Rattle.runs.specs.Runs.{over}
-use Rattle.stream.specs.declared.Answer.{Answer}
-use Rattle.stream.specs.declared.Answer.the-variants.{GoingOn, Stopped, Refused}
+use Rattle.deck.specs.Bodies.{samplesTold}
 use Rattle.stream.specs.Calls as calls
 use Rattle.rules.specs.Tape.{Body, byteAt}
 use Rattle.rules.specs.Scans.{Shape}
@@ -31,15 +30,9 @@ pub record TwoAreOne (s : State) (a b : List ℕ) (m n k : ℕ) : Type 0 where
   pub state : calls.portion (calls.portion s a m .state) b n .state ≡ calls.portion s (a ++ b) k .state
   pub samples : calls.portionWrote s a m ++ calls.portionWrote (calls.portion s a m .state) b n ≡ calls.portionWrote s (a ++ b) k
 
--- how many samples an answer says were written
-abbrev pub samplesIn : Answer → ℕ
-samplesIn (GoingOn n) = n
-samplesIn (Stopped n r) = n
-samplesIn (Refused r) = 0
-
 -- how many numbers those samples are, M and X each; and the caller's output after the portion
 abbrev numbersTold : State → List ℕ → List ℤ → ℕ
-numbersTold s bs out = 2 * samplesIn (calls.portion s bs (length out) .answer)
+numbersTold s bs out = 2 * samplesTold (calls.portion s bs (length out) .answer)
 
 abbrev pub outputOf : State → List ℕ → List ℤ → List ℤ
 outputOf s bs out = over (calls.portionWrote s bs (length out)) out

@@ -1,4 +1,4 @@
--- For every function that is open to callers: its contract, as the source has it, leaves one answer, one content of what is lent
+-- For every function that is open to callers, save those over a view (Held.antt) and `lister::list` (docs/CONTRACTS.md says why): its contract, as the source has it, leaves one answer, one content of what is lent
 -- to be written, and where it hands a part out the very part: its place in memory and its bytes.
 -- Assumes nothing.
 use Rattle.basis.proofs.difference.Reads as basis-difference

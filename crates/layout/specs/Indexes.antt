@@ -1,5 +1,5 @@
 -- Which sample of a scan is which: its number k, and its set, channel and subscan.
--- Scan type t, set s and channel c count from 1, subscan u and sample k from 0.
+-- Scan type t, set s and channel c count from 1 (where a line says so, from 0), subscan u and sample k from 0.
 -- Assumes nothing.
 use Prim.Native.Nat.{ℕ, _+_, _*_, _-_, _/_, _%_}
 use mathlib.Core.Bool.{Bool, not, _&&_}

@@ -16,6 +16,7 @@ use header::is_set;
 use refusals::Fault;
 use refusals::Refusal;
 use sets::channels;
+use sets::samples;
 use sets::samples_before;
 use sets::subscans;
 
@@ -100,7 +101,7 @@ fn has_sample(b: &[u8], t: u32, k: u32) -> bool
     if !is_scan_type(b, t) {
         return false;
     }
-    let n = samples_before(b, (t - 1) as u8, pair_at(b, 29));
+    let n = samples(b, (t - 1) as u8);
     (k as usize) < n
 }
 

@@ -1,4 +1,4 @@
--- What the lister is held to: it prints of a reel what the rules give of the whole image, however the image is cut.
+-- What the lister is held to: the lines that its steps make of a reel are what the rules give of the whole image, however the image is cut.
 -- Assumes nothing.
 use Prim.Native.Nat.{ℕ, _/_, _≤_}
 use mathlib.Core.Path.{_≡_}

@@ -1,5 +1,5 @@
 // The parts of a header block, handed out as parts of the slice that the caller lent.
-// Every question takes any block. A refused one hands out an empty part, and `header` tells the refusal.
+// Every question takes any block. A refused one hands out an empty part, and `header::header_fault` tells the refusal.
 ghost use mathlib.Core.Path.{_≡_};
 ghost use Prim.Native.Nat.{_+_, _≤_, _<_, _^_};
 ghost use lib.ListN.{length};

@@ -1,4 +1,4 @@
--- "What is turned away": the number of each refusal, and the values that its row names.
+-- "What is turned away": the number of each refusal, and the values that its row names; and the refusal of a stop, by its number and place.
 -- Assumes nothing.
 use Prim.Native.Nat.{ℕ}
 use mathlib.Core.List.{List, [], _∷_}

@@ -6,7 +6,7 @@ use mathlib.Core.List.{List}
 use mathlib.Core.Option.{Option, none, some}
 use lib.Dec.{eqb, ltb}
 use lib.IntN.{ℤ}
-use lib.ListN.{length, getD}
+use lib.ListN.{length}
 use Rattle.basis.specs.Choice.{pick}
 use Rattle.basis.specs.Upto.{upto, sumUpto, listUpto}
 use Rattle.refusals.specs.declared.Refusal.{Refusal}
@@ -14,7 +14,7 @@ use Rattle.refusals.specs.declared.Refusal.the-variants.{Part, Open, Missing}
 use Rattle.refusals.specs.declared.Fault.{Fault}
 use Rattle.refusals.specs.declared.Fault.the-variants.{Clear, At}
 use Rattle.refusals.specs.Order.{when, orElse}
-use Rattle.refusals.specs.Table.{said}
+use Rattle.refusals.specs.Table.{told}
 use Rattle.rules.specs.Tape.{Body, byteAt, size, firstFault}
 use Rattle.rules.specs.Scans.{Shape, twiOf, itbOf, timeOf, typeOf}
 use Rattle.rules.specs.Faults.{byteFault, endFault}
@@ -66,7 +66,7 @@ answered (At r) t = refused r
 
 -- the place that a stop names
 abbrev pub stopPlace : Refusal → ℕ
-stopPlace r = getD (said r .values) 0 0
+stopPlace r = told r .first
 
 -- how many of n bytes come before a stop
 abbrev pub bytesBefore : Fault → ℕ → ℕ

@@ -13,7 +13,7 @@ use Rattle.runs.specs.Words.{byteValue}
 use Rattle.runs.specs.Runs.{offs}
 use Rattle.runs.proofs.Done.{one-low, offs-more, offs-low}
 
--- at the head of a loop over the bytes from k to e: those before i are counted
+-- at the head of a loop over the bytes from k on and before e: those before i are counted
 pub record Counted (code : ℕ) (bs : List ℕ) (k e off i : ℕ) : Type 0 where
   pub within : i ≤ e
   pub few : k + off ≤ i

@@ -28,12 +28,12 @@ unfoldable pub byteValue : ℕ → List ℕ → ℕ → Value
 byteValue code bs k = valueOf (byteCode code) 0 (byteIn bs k)
 
 -- groups of 0015, of ten bytes: "four c of 4 bits, then four of S Q14 0"; of a group's exponents e the one that word k takes
-unfoldable pub turnOf : ℕ → ℕ → ℕ
-turnOf e k = field e (12 - 4 * (k % 4)) 4
+unfoldable pub exponentOf : ℕ → ℕ → ℕ
+exponentOf e k = field e (12 - 4 * (k % 4)) 4
 
 -- the exponent of word k of groups
 unfoldable pub groupExponent : List ℕ → ℕ → ℕ
-groupExponent bs k = turnOf (written 256 (byteIn bs) (10 * (k / 4)) 2) k
+groupExponent bs k = exponentOf (written 256 (byteIn bs) (10 * (k / 4)) 2) k
 
 -- its sixteen bits
 unfoldable pub groupWord : List ℕ → ℕ → ℕ
@@ -49,4 +49,4 @@ groupedIn bytes = bytes / 10 * 4 + (bytes % 10 - 2) / 2
 
 -- word k of what is left of a group from its word j on, by the group's exponents e
 unfoldable pub restValue : ℕ → ℕ → ℕ → List ℕ → ℕ → Value
-restValue code e j bs k = valueOf code (turnOf e (j + k)) (written 256 (byteIn bs) (2 * k) 2)
+restValue code e j bs k = valueOf code (exponentOf e (j + k)) (written 256 (byteIn bs) (2 * k) 2)

@@ -1,4 +1,4 @@
-// Whole sample words, read one after another. 0024, 0044, 0048 and 0015 have loops of their own, whose decoders are made of constants; 0022 and 0042 share one, by their tables.
+// Whole sample words, read one after another. 0024, 0044, 0048 and 0015 have loops of their own, whose decoders are made of constants; 0022 and 0042 share one, by their tables. And four bytes as one number, for `stream`.
 ghost use mathlib.Core.Path.{_≡_};
 ghost use Prim.Native.Nat.{min, _+_, _*_, _/_, _%_, _≤_, _<_};
 ghost use lib.ListN.{length, set};
@@ -114,7 +114,7 @@ fn count_byte(off: u8, code: u16, b: u8) -> u8
     if entries::off(code, b) { off + 1 } else { off }
 }
 
-// The off-rule words among bytes k to e. Their count is a byte, as they are: so many of them are looked at in one instruction.
+// The off-rule words among the bytes from k on and before e. Their count is a byte, as they are: so many of them are looked at in one instruction.
 fn off_few(code: u16, bytes: &[u8], k: usize, e: usize) -> u8
     requires { ⌜ (k ≤ e) × (e ≤ k + 255) × (e ≤ length (now bytes)) ⌝ }
     ensures { λ r. ⌜ offs (byteValue code (now (bytes .entry))) e ≡ offs (byteValue code (now (bytes .entry))) k + r ⌝ }

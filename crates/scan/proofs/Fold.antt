@@ -12,7 +12,7 @@ use Rattle.basis.specs.Choice.{pick}
 use Rattle.basis.proofs.Choices.{pick-both}
 use Rattle.scan.specs.declared.State.{State}
 use Rattle.scan.specs.declared.Stepped.{Stepped}
-use Rattle.scan.specs.Step.{step, still, after, wrote, pair}
+use Rattle.scan.specs.Step.{step, still, after, wrote, mAndX}
 
 pub after-append : (s : State) (a b : List ℕ) → after s (a ++ b) ≡ after (after s a) b
 unfolding after
@@ -24,8 +24,8 @@ unfolding after wrote
 wrote-append s [] b = refl
 wrote-append s (x ∷ a) b = rw (wrote-append (step s x .state) a b, append-assoc)
 
-pair-length : (r : Stepped) → length (pair r) ≤ 2
-unfolding pair
+pair-length : (r : Stepped) → length (mAndX r) ≤ 2
+unfolding mAndX
 pair-length r = pick-both (λ (l : List ℤ). length l ≤ 2) _ (omega arith) (omega arith)
 
 pub wrote-length : (s : State) (bs : List ℕ) → length (wrote s bs) ≤ 2 * length bs
@@ -44,6 +44,6 @@ after-stopped s [] h = refl
 after-stopped s (b ∷ bs) h = rw (step-stopped s b h) (after-stopped s bs h)
 
 pub wrote-stopped : (s : State) (bs : List ℕ) → eqb (s .stop) 0 ≡ false → wrote s bs ≡ []
-unfolding wrote pair still pick
+unfolding wrote mAndX still pick
 wrote-stopped s [] h = refl
 wrote-stopped s (b ∷ bs) h = rw (step-stopped s b h) (wrote-stopped s bs h)

@@ -10,7 +10,7 @@ use Rattle.scan.specs.declared.State.{State}
 use Rattle.scan.specs.declared.Shape.{Shape}
 use Rattle.scan.specs.declared.Track.{Track}
 
--- words stand in groups of w bytes, 0 where there are none, and after its start a scan has a whole number of groups
+-- w is the bytes of a group of words, 0 where the code has none: there are words, and after its start a scan has a whole number of their groups
 unfoldable pub wholeb : ℕ → ℕ → Bool
 wholeb scan w = ltb 0 w and eqb ((scan - 8) % w) 0
 

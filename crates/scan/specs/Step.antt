@@ -175,10 +175,10 @@ after s [] = s
 after s (b ∷ bs) = after (step s b .state) bs
 
 -- "each sample gives M then X when its last byte arrives"
-unfoldable pub pair : Stepped → List ℤ
-pair r = pick (r .completed) (r .value .m ∷ r .value .x ∷ []) []
+unfoldable pub mAndX : Stepped → List ℤ
+mAndX r = pick (r .completed) (r .value .m ∷ r .value .x ∷ []) []
 
 -- what some bytes write
 unfoldable pub wrote : State → List ℕ → List ℤ
 wrote s [] = []
-wrote s (b ∷ bs) = pair (step s b) ++ wrote (step s b .state) bs
+wrote s (b ∷ bs) = mAndX (step s b) ++ wrote (step s b .state) bs

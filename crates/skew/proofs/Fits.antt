@@ -1,4 +1,4 @@
--- The skew bytes lie within the slice that has them.
+-- What a question for skew or time that is not refused tells: the skew bytes lie within the slice that has them, and byte k is that of sample k.
 -- Assumes nothing.
 use Prim.Native.Nat.{ℕ, _+_, _*_, _-_, _^_, _≤_, _<_}
 use mathlib.Core.Path.{_≡_, refl, _∙_, ap}

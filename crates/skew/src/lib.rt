@@ -1,5 +1,5 @@
 // The skew bytes of a header block or of the crew's sheet lent beside it, and what they say of a sample.
-// Every question takes any block and sheet. A refused one hands out an empty part, and another tells the refusal.
+// Every question takes any block and sheet. Where the skew bytes are refused `skew` hands out an empty part, and `skew_fault` tells why; the others answer their refusal.
 ghost use mathlib.Core.Path.{_≡_};
 ghost use Prim.Native.Nat.{_+_, _-_, _≤_, _<_, _^_};
 ghost use lib.ListN.{length};
@@ -67,7 +67,7 @@ fn lent<'a>(block: &'a [u8], sheet: &'a [u8]) -> &'a [u8]
     }
 }
 
-// The bytes of that slice before those of scan type t.
+// The bytes of that slice before those of scan type t, counting from 0.
 pub fn skew_place(b: &[u8], t: u8) -> usize
     ensures { λ r. ⌜ (r ≡ skewPlace (now (b .entry)) t) × (r < 2 ^ 48) ⌝ }
 {
@@ -78,7 +78,7 @@ pub fn skew_place(b: &[u8], t: u8) -> usize
     32 * (1 + fields_before(b, t) + pair_at(b, 29) as u32) as usize
 }
 
-// The skew bytes of scan type t, which there are.
+// The skew bytes of scan type t, counting from 0, which there are.
 fn skew_bytes<'a>(block: &'a [u8], sheet: &'a [u8], t: u8) -> &'a [u8]
     requires { ⌜ skewPlace (now block) t + samplesOf (now block) t ≤ length (source (now block) (now block) (now sheet)) ⌝ }
     ensures { λ r. ⌜ slice (r .ptr) (now r) ≡ skewOf (slice (block .entry .ptr) (now (block .entry))) (slice (sheet .entry .ptr) (now (sheet .entry))) t ⌝ }
@@ -100,10 +100,11 @@ pub fn skew<'a>(block: &'a [u8], sheet: &'a [u8], scan_type: u32) -> &'a [u8]
     }
 }
 
-fn skew_byte_fault(block: &[u8], sheet: &[u8], t: u32, k: u32) -> Fault
-    ensures { λ r. ⌜ r ≡ skewByteFault (now (block .entry)) (now (sheet .entry)) t k ⌝ }
+// What refuses the skew byte of sample k.
+fn skew_byte_fault(block: &[u8], sheet: &[u8], scan_type: u32, k: u32) -> Fault
+    ensures { λ r. ⌜ r ≡ skewByteFault (now (block .entry)) (now (sheet .entry)) «scan_type» k ⌝ }
 {
-    let f = place_fault(block, t, k);
+    let f = place_fault(block, scan_type, k);
     if let Fault::At(r) = f {
         return Fault::At(r);
     }
@@ -114,11 +115,11 @@ fn skew_byte_fault(block: &[u8], sheet: &[u8], t: u32, k: u32) -> Fault
 }
 
 // The skew byte of sample k, which there is.
-fn skew_byte(block: &[u8], sheet: &[u8], t: u32, k: u32) -> u8
-    requires { ⌜ skewByteFault (now block) (now sheet) t k ≡ Clear ⌝ }
-    ensures { λ r. ⌜ r ≡ skewByte (now (block .entry)) (now (sheet .entry)) (t - 1) k ⌝ }
+fn skew_byte(block: &[u8], sheet: &[u8], scan_type: u32, k: u32) -> u8
+    requires { ⌜ skewByteFault (now block) (now sheet) «scan_type» k ≡ Clear ⌝ }
+    ensures { λ r. ⌜ r ≡ skewByte (now (block .entry)) (now (sheet .entry)) («scan_type» - 1) k ⌝ }
 {
-    let i = skew_place(block, (t - 1) as u8) + k as usize;
+    let i = skew_place(block, (scan_type - 1) as u8) + k as usize;
     let fields = pair_at(block, 30);
     if fields == 0 { sheet[i] } else { block[i] }
 }
@@ -134,10 +135,11 @@ pub fn skew_at(block: &[u8], sheet: &[u8], scan_type: u32, k: u32) -> Skewed
     }
 }
 
-fn time_fault(block: &[u8], sheet: &[u8], t: u32, k: u32, word: u32) -> Fault
-    ensures { λ r. ⌜ r ≡ timeFault (now (block .entry)) (now (sheet .entry)) t k word ⌝ }
+// What refuses the time of sample k.
+fn time_fault(block: &[u8], sheet: &[u8], scan_type: u32, k: u32, word: u32) -> Fault
+    ensures { λ r. ⌜ r ≡ timeFault (now (block .entry)) (now (sheet .entry)) «scan_type» k word ⌝ }
 {
-    let f = place_fault(block, t, k);
+    let f = place_fault(block, scan_type, k);
     if let Fault::At(r) = f {
         return Fault::At(r);
     }
@@ -150,6 +152,7 @@ fn time_fault(block: &[u8], sheet: &[u8], t: u32, k: u32, word: u32) -> Fault
     Fault::At(Refusal::Sheet)
 }
 
+// 16 T + SS x I.
 fn time_by(word: u32, skew: u8, interval: u8) -> u32
     requires { ⌜ word < 2 ^ 24 ⌝ }
     ensures { λ r. ⌜ r ≡ timeBy word skew interval ⌝ }
@@ -157,16 +160,16 @@ fn time_by(word: u32, skew: u8, interval: u8) -> u32
     16 * word + skew as u32 * interval as u32
 }
 
-// The time of sample k in a scan with timing word t.
-pub fn sample_time(block: &[u8], sheet: &[u8], scan_type: u32, k: u32, t: u32) -> Timed
-    ensures { λ r. ⌜ r ≡ timeAnswer (now (block .entry)) (now (sheet .entry)) «scan_type» k t ⌝ }
+// The time of sample k in a scan with this timing word.
+pub fn sample_time(block: &[u8], sheet: &[u8], scan_type: u32, k: u32, word: u32) -> Timed
+    ensures { λ r. ⌜ r ≡ timeAnswer (now (block .entry)) (now (sheet .entry)) «scan_type» k word ⌝ }
 {
-    let f = time_fault(block, sheet, scan_type, k, t);
+    let f = time_fault(block, sheet, scan_type, k, word);
     match f {
         Fault::At(r) => Timed::NoTime(r),
         Fault::Clear => {
             let skew = skew_byte(block, sheet, scan_type, k);
-            Timed::Time(time_by(t, skew, byte_at(block, 23)))
+            Timed::Time(time_by(word, skew, byte_at(block, 23)))
         }
     }
 }

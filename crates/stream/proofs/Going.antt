@@ -13,7 +13,7 @@ use Rattle.scan.specs.declared.State.{State}
 use Rattle.scan.specs.declared.Stepped.{Stepped}
 use Rattle.basis.specs.Choice.{pick}
 use Rattle.scan.specs.Fit.{Fit}
-use Rattle.scan.specs.Step.{step, after, wrote, pair}
+use Rattle.scan.specs.Step.{step, after, wrote, mAndX}
 use Rattle.runs.specs.Runs.{over}
 use Rattle.runs.proofs.Writes.{take-two, drop-two, further}
 use Rattle.scan.proofs.Keep.{fit-step, fit-after, shape-step, shape-after}
@@ -33,12 +33,12 @@ pub record Going (bs : List ℕ) (out₀ : List ℤ) (s : State) (out : List ℤ
 pub going-start : (bs : List ℕ) (out : List ℤ) (s : State) → Fit s → Going bs out s out s 0 0
 going-start bs out s f = record { fit = f; shape = refl; in-bytes = omega arith; in-out = omega arith; same = refl; state = refl; front = refl; back = refl }
 
-pair-none : (W : List ℤ) (r : Stepped) → r .completed ≡ false → W ++ pair r ≡ W
-unfolding pair pick
+pair-none : (W : List ℤ) (r : Stepped) → r .completed ≡ false → W ++ mAndX r ≡ W
+unfolding mAndX pick
 pair-none W r q = rw (q, append-nil)
 
-pair-some : (W : List ℤ) (r : Stepped) → r .completed ≡ true → W ++ pair r ≡ W ++ (r .value .m ∷ r .value .x ∷ [])
-unfolding pair pick
+pair-some : (W : List ℤ) (r : Stepped) → r .completed ≡ true → W ++ mAndX r ≡ W ++ (r .value .m ∷ r .value .x ∷ [])
+unfolding mAndX pick
 pair-some W r q = rw q
 
 module _ (bs : List ℕ) (out₀ : List ℤ) (s : State) (out : List ℤ) (t : State) (n i : ℕ) (r : Stepped) where
@@ -46,7 +46,7 @@ module _ (bs : List ℕ) (out₀ : List ℤ) (s : State) (out : List ℤ) (t : S
   unfolding after
   next-state h e g = rw (e, add-one) (rw (drop-cons bs i 0) at g)
 
-  next-front : (W : List ℤ) → i < length bs → r ≡ step t (getD bs i 0) → W ++ wrote t (drop i bs) ≡ wrote s bs → (W ++ pair r) ++ wrote (r .state) (drop (i + 1) bs) ≡ wrote s bs
+  next-front : (W : List ℤ) → i < length bs → r ≡ step t (getD bs i 0) → W ++ wrote t (drop i bs) ≡ wrote s bs → (W ++ mAndX r) ++ wrote (r .state) (drop (i + 1) bs) ≡ wrote s bs
   unfolding wrote
   next-front W h e g = rw (e, add-one, append-assoc) (rw (drop-cons bs i 0) at g)
 

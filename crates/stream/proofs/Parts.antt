@@ -1,4 +1,4 @@
--- A part of a list that is written, and the list about it.
+-- Bytes that may be taken at once; and a part of a list that is written, with the list about it.
 -- Assumes nothing.
 use Prim.Native.Nat.{ℕ, _+_, _-_, _*_, _%_, _≤_}
 use mathlib.Core.Path.{_≡_, ap}

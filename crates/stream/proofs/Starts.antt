@@ -16,7 +16,7 @@ use Rattle.basis.specs.Digits.{written, byteIn}
 use Rattle.basis.proofs.Choices.{and-true}
 use Rattle.scan.specs.declared.Track.{Track}
 use Rattle.scan.specs.declared.State.{State}
-use Rattle.scan.specs.Step.{step, still, moved, movedBy, quiet, sync, start, full, phase, typed, phased, time, timed, instep, shift, after, wrote, pair}
+use Rattle.scan.specs.Step.{step, still, moved, movedBy, quiet, sync, start, full, phase, typed, phased, time, timed, instep, shift, after, wrote, mAndX}
 use Rattle.runs.specs.Runs.{over}
 use Rattle.stream.specs.declared.Chunk.{Chunk}
 use Rattle.stream.specs.Bulk.{chunk, chunkOut}
@@ -36,7 +36,7 @@ unfolding after wrote
 goes-none s = record { state = refl; list = refl }
 
 goes-on : (s t u : State) (b : ℕ) (bs : List ℕ) → step s b ≡ still t → Goes t bs u → Goes s (b ∷ bs) u
-unfolding after wrote pair pick still
+unfolding after wrote mAndX pick still
 goes-on s t u b bs e g = record { state = rw e (g .state); list = rw e (g .list) }
 
 -- ---- one byte of a start, by its place in the scan

@@ -14,16 +14,16 @@ use Rattle.runs.specs.Runs.{numbers}
 use Rattle.runs.proofs.Done.{numbers-more}
 use Rattle.scan.specs.declared.State.{State}
 use Rattle.scan.specs.declared.Stepped.{Stepped}
-use Rattle.scan.specs.Step.{step, still, after, wrote, pair}
+use Rattle.scan.specs.Step.{step, still, after, wrote, mAndX}
 use Rattle.scan.proofs.Fold.{after-append, wrote-append}
 
 after-one : (s : State) (b : ℕ) → after s (b ∷ []) ≡ step s b .state
 unfolding after
 after-one s b = refl
 
-wrote-one : (s : State) (b : ℕ) → wrote s (b ∷ []) ≡ pair (step s b)
+wrote-one : (s : State) (b : ℕ) → wrote s (b ∷ []) ≡ mAndX (step s b)
 unfolding wrote
-wrote-one s b = append-nil (pair (step s b))
+wrote-one s b = append-nil (mAndX (step s b))
 
 -- states F i and counts D i, after i of the bytes, that each byte's step goes along: with no sample, or with the value of the next
 module _ (bs : List ℕ) (F : ℕ → State) (D : ℕ → ℕ) (f : ℕ → Value) where
@@ -38,11 +38,11 @@ module _ (bs : List ℕ) (F : ℕ → State) (D : ℕ → ℕ) (f : ℕ → Valu
   next-state : (i : ℕ) → i < length bs → SoFar i → step (F i) (getD bs i 0) .state ≡ F (suc i) → after (F 0) (take (suc i) bs) ≡ F (suc i)
   next-state i h s e = rw (take-suc bs i 0 h, after-append (F 0) (take i bs) (getD bs i 0 ∷ []), s .state, after-one (F i) (getD bs i 0)) e
 
-  next-list : (i : ℕ) → i < length bs → SoFar i → numbers f (D i) ++ pair (step (F i) (getD bs i 0)) ≡ numbers f (D (suc i)) → wrote (F 0) (take (suc i) bs) ≡ numbers f (D (suc i))
+  next-list : (i : ℕ) → i < length bs → SoFar i → numbers f (D i) ++ mAndX (step (F i) (getD bs i 0)) ≡ numbers f (D (suc i)) → wrote (F 0) (take (suc i) bs) ≡ numbers f (D (suc i))
   next-list i h s e = rw (take-suc bs i 0 h, wrote-append (F 0) (take i bs) (getD bs i 0 ∷ []), s .state, s .list, wrote-one (F i) (getD bs i 0)) e
 
   more : (i : ℕ) → i < length bs → Turn i → SoFar i → SoFar (suc i)
-  unfolding pair pick still
+  unfolding mAndX pick still
   more i h (quietly e d) s =
       record { state = next-state i h s (ap (λ (r : Stepped). r .state) e); list = next-list i h s (rw (e, d, append-nil)) }
   more i h (giving e d) s =

@@ -18,7 +18,7 @@ use Rattle.codes.specs.Codes.{groupOf}
 use Rattle.words.specs.declared.Value.{Value}
 use Rattle.words.specs.Words.{valueOf, offOne}
 use Rattle.runs.specs.Runs.{offs}
-use Rattle.runs.specs.Words.{plainValue, groupedIn, groupedValue, groupExponent, groupWord, restValue, turnOf}
+use Rattle.runs.specs.Words.{plainValue, groupedIn, groupedValue, groupExponent, groupWord, restValue, exponentOf}
 use Rattle.runs.proofs.Done.{offs-more}
 use Rattle.scan.specs.declared.Track.{Track}
 use Rattle.scan.specs.declared.State.{State}
@@ -192,7 +192,7 @@ module _ (s : State) (bs : List ℕ) (a : Able s 10 (length bs)) (front : (s .pl
 
   group-is : (i : ℕ) → (i % 10 % 2 ≡ 0 → ⊥) → (i % 10 ≡ 1 → ⊥)
       → valueOf (s .shape .code) (nibble (exponentsAt bs (s .held) (s .exponents) i) (i % 10)) (low (heldAt bs (s .held) (suc i)) 2) ≡ groupedValue (s .shape .code) bs (groupedIn i)
-  unfolding groupedIn groupedValue groupExponent turnOf groupWord nibble
+  unfolding groupedIn groupedValue groupExponent exponentOf groupWord nibble
   group-is i odd big =
       let j = i / 10 in
       let four : groupedIn i / 4 ≡ i / 10 = omega arith in
@@ -268,7 +268,7 @@ module _ (s : State) (bs : List ℕ) (a : Able s 10 (length bs)) (g : ℕ) (plac
   pairs i = i / 2
 
   rest-is : (i : ℕ) → i < length bs → (i % 2 ≡ 0 → ⊥) → valueOf (s .shape .code) (nibble (s .exponents) (g + i)) (low (heldAt bs (s .held) (suc i)) 2) ≡ restValue (s .shape .code) (s .exponents) ((g - 2) / 2) bs (i / 2)
-  unfolding restValue turnOf nibble
+  unfolding restValue exponentOf nibble
   rest-is i h odd =
       let bit = word-bit g i two even odd (omega arith) in
       let end : 2 * (i / 2) + 2 ≡ suc i = omega arith in

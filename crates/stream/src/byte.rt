@@ -58,7 +58,7 @@ pub(crate) fn moved(s: State, k: Track, e: u32, off: u32, b: u8) -> State
     t
 }
 
-// A byte that only moves the place on.
+// A byte that tells nothing by itself: the place and the last four bytes move on.
 fn quiet(s: State, b: u8) -> Stepped
     requires { ⌜ s .place < 4294967295 ⌝ }
     ensures { λ r. ⌜ r ≡ Step.quiet s b ⌝ }
@@ -128,7 +128,7 @@ pub(crate) fn phased(k: Track, types: u32, b: u8) -> bool
     t.seen <= types
 }
 
-// Byte 4 of a scan: its last two sync bits, and DP.
+// Byte 4 of a scan: its last bits 01, then DP.
 fn phase(s: State, b: u8) -> Stepped
     requires { ⌜ (s .place < 4294967295) × (s .track .seen ≤ 99) ⌝ }
     ensures { λ r. ⌜ r ≡ Step.phase s b ⌝ }
@@ -173,7 +173,7 @@ pub(crate) fn instep(s: State, b: u8) -> bool
     shift(s.held, b) == std::num::wrapping_add_u32(s.track.timing, s.shape.advance)
 }
 
-// Byte 8 of a scan: TIMING.
+// Byte 8 of a scan: in step, or TIMING.
 fn time(s: State, b: u8) -> Stepped
     requires { ⌜ s .place < 4294967295 ⌝ }
     ensures { λ r. ⌜ r ≡ Step.time s b ⌝ }

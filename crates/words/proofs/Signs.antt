@@ -1,4 +1,4 @@
--- The sign put on a fraction: what each way of taking it off Q comes to.
+-- M of a fraction and its sign: what each way to reckon it comes to.
 -- Assumes nothing.
 use Prim.Native.Nat.{ℕ, zero, suc, _+_, _-_, _*_, _/_, _%_, _^_, _<_}
 use mathlib.Core.Path.{_≡_, refl, _∙_, ap}

@@ -17,7 +17,7 @@ use Rattle.words.specs.declared.Value.{Value}
 use Rattle.words.specs.declared.Word.{Word}
 use Rattle.words.specs.declared.Word.the-variants.{Sample, Refused}
 
--- Letters: s is S, the sign; e the exponent, c of the page, and c what of it stands apart from the word; q is Q; n and b are the bits of q and e.
+-- Letters: s is S, the sign; q is Q; e is the page's c, the whole exponent, and c only what of it stands apart from the word; n and b are the bits of q and e.
 
 -- the bits of a word below its fraction, which are not used
 abbrev pub spareOf : Row → ℕ
@@ -97,13 +97,13 @@ wordIn r c word =
     (pick (ltb c (2 ^ r .apart) && ltb word (2 ^ (r .width - r .apart))) (sampleIn r c word) (Refused Index))
 
 -- FORMAT where the code is not among the twelve
-abbrev pub wordAt : Found → ℕ → ℕ → Word
-wordAt Nothing c word = Refused Format
-wordAt (At r) c word = wordIn r c word
+abbrev pub wordFound : Found → ℕ → ℕ → Word
+wordFound Nothing c word = Refused Format
+wordFound (At r) c word = wordIn r c word
 
 -- the answer to a word of a code, with the exponent c that stands apart from it (0015; elsewhere 0)
 unfoldable pub wordOf : ℕ → ℕ → ℕ → Word
-wordOf code c word = wordAt (rowOf code) c word
+wordOf code c word = wordFound (rowOf code) c word
 
 -- a sample's numbers; 0 x 2^0, not off rule, where a word is refused
 abbrev pub valued : Word → Value

@@ -6,7 +6,6 @@ use native.Mathlib.Omega.{arith}
 use borrow.Author.Tests.{not-false, not-true}
 use Rattle.basis.specs.Choice.{_and_}
 use borrow.Author.Needs.{needs}
-use Rattle.sets.specs.Samples.{samplesOf}
 use Rattle.layout.specs.Indexes.{hasSample}
 use Rattle.layout.proofs.Facts.{scan-small}
 use Rattle.layout.proofs.has_sample.Statement.{statement}
@@ -22,21 +21,18 @@ returns : tie.Need-returns
 unfolding hasSample _and_
 returns c = rw (← c .before .is-scan-type .ensures, not-true (c .before .is-scan-type .result) (c .if1 .taken))
 
-sub-samples-before : tie.Need-sub-samples-before
-sub-samples-before c = omega (arith, small c .0)
+sub-samples : tie.Need-sub-samples
+sub-samples c = omega (arith, small c .0)
 
-cast-samples-before : tie.Need-cast-samples-before
-cast-samples-before c = omega (arith, small c .1)
+cast-samples : tie.Need-cast-samples
+cast-samples c = omega (arith, small c .1)
 
-pair-at-requires : tie.Need-pair-at-requires
-pair-at-requires c κs = search needs
-
-samples-before-requires : tie.Need-samples-before-requires
-samples-before-requires c κs = search needs
+samples-requires : tie.Need-samples-requires
+samples-requires c κs = search needs
 
 returns-2 : tie.Need-returns-2
-unfolding hasSample _and_ samplesOf
-returns-2 c = rw (← c .before .before .before .is-scan-type .ensures, not-false (c .before .before .before .is-scan-type .result) (c .before .before .if1 .left), ← c .before .pair-at .ensures .0, ← c .samples-before .ensures .0)
+unfolding hasSample _and_
+returns-2 c = rw (← c .before .before .is-scan-type .ensures, not-false (c .before .before .is-scan-type .result) (c .before .if1 .left), ← c .samples .ensures .0)
 
 pub has-sample-spec : {M : Type 1} → statement M
 has-sample-spec =
@@ -44,8 +40,7 @@ has-sample-spec =
     (tie.spec
     is-scan-type-requires
     returns
-    sub-samples-before
-    cast-samples-before
-    pair-at-requires
-    samples-before-requires
+    sub-samples
+    cast-samples
+    samples-requires
     returns-2)

@@ -1,7 +1,7 @@
 -- `runs::group_exponent` meets its contract.
 -- Assumes nothing.
 use Rattle.basis.specs.Fields.{field}
-use Rattle.runs.specs.Words.{turnOf, groupExponent}
+use Rattle.runs.specs.Words.{exponentOf, groupExponent}
 use borrow.Author.Needs.{needs}
 use Rattle.runs.proofs.group_exponent.Statement.{statement}
 use Rattle.runs.proofs.group_exponent.Tie as tie
@@ -28,7 +28,7 @@ shr-result : tie.Need-shr-result
 shr-result c = search needs
 
 returns : tie.Need-returns
-unfolding groupExponent turnOf field
+unfolding groupExponent exponentOf field
 returns c = rw (c .big2 .ensures)
 
 pub group-exponent-spec : {M : Type 1} → statement M

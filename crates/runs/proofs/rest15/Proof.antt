@@ -6,7 +6,7 @@ use native.Mathlib.Omega.{arith}
 use denote.Ref.{now}
 use lib.ListN.{length}
 use Rattle.basis.specs.Fields.{field}
-use Rattle.runs.specs.Words.{wordsIn, turnOf, restValue}
+use Rattle.runs.specs.Words.{wordsIn, exponentOf, restValue}
 use Rattle.runs.proofs.Done.{Done, done-none, done-more, loop-ends}
 use Rattle.runs.proofs.rest15.Statement.{statement}
 use Rattle.runs.proofs.rest15.Tie as tie
@@ -63,7 +63,7 @@ loop-less : tie.Need-loop-less Inv-loop μ-loop
 loop-less c = omega arith
 
 loop-again : tie.Need-loop-again Inv-loop μ-loop
-unfolding restValue turnOf field
+unfolding restValue exponentOf field
 loop-again c =
     let z = c .before .before .before .before .before .before .before .before .before .before in
     let l = c .before .before .before .before .before .before .before .loop in

@@ -10,7 +10,7 @@ use Rattle.skew.proofs.Fits.{time-clear}
 use Rattle.skew.proofs.sample_time.Statement.{statement}
 use Rattle.skew.proofs.sample_time.Tie as tie
 
-facts : (c : tie.After-enum-told) → (skewByteFault (c .before .before .before .before .before .args .block .now) (c .before .before .before .before .before .args .sheet .now) (c .before .before .before .before .before .args .scan-type) (c .before .before .before .before .before .args .k) ≡ Clear) × (c .before .before .before .before .before .args .t < 2 ^ 24)
+facts : (c : tie.After-enum-told) → (skewByteFault (c .before .before .before .before .before .args .block .now) (c .before .before .before .before .before .args .sheet .now) (c .before .before .before .before .before .args .scan-type) (c .before .before .before .before .before .args .k) ≡ Clear) × (c .before .before .before .before .before .args .word < 2 ^ 24)
 facts c = time-clear _ _ _ _ _ (sym (c .before .before .time-fault .ensures) ∙ c .enum-told .given .1)
 
 time-fault-requires : tie.Need-time-fault-requires

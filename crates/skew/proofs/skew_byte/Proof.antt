@@ -12,7 +12,7 @@ use Rattle.skew.proofs.Fits.{Asked, byte-asked, asked-fits}
 use Rattle.skew.proofs.skew_byte.Statement.{statement}
 use Rattle.skew.proofs.skew_byte.Tie as tie
 
-facts : (c : tie.After-shared-slice-known2) → Asked (c .before .before .args .block .now) (c .before .before .args .sheet .now) (c .before .before .args .t) × (c .before .before .args .k < samplesOf (c .before .before .args .block .now) (c .before .before .args .t - 1))
+facts : (c : tie.After-shared-slice-known2) → Asked (c .before .before .args .block .now) (c .before .before .args .sheet .now) (c .before .before .args .scan-type) × (c .before .before .args .k < samplesOf (c .before .before .args .block .now) (c .before .before .args .scan-type - 1))
 facts c = byte-asked _ _ _ _ (c .before .before .pre)
 
 inside : (c : tie.After-skew-place) → c .skew-place .result + c .before .before .before .args .k < length (source (c .before .before .before .args .block .now) (c .before .before .before .args .block .now) (c .before .before .before .args .sheet .now))

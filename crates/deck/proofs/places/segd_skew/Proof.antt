@@ -1,6 +1,5 @@
 -- `deck::places::segd_skew` meets its contract.
 -- Assumes nothing.
-use Rattle.sets.specs.Samples.{samplesOf}
 use Rattle.skew.proofs.Fits.{skew-asked}
 use native.Mathlib.Omega.{arith}
 use mathlib.Core.Path.{sym, _∙_}
@@ -20,17 +19,14 @@ sub-t c = omega (arith, skew-asked _ _ _ (sym (c .before .before .skew-fault .en
 cast-t : tie.Need-cast-t
 cast-t c = omega (arith, skew-asked _ _ _ (sym (c .before .before .skew-fault .ensures) ∙ c .enum-told .given .1) .small)
 
-pair-at-requires : tie.Need-pair-at-requires
-pair-at-requires c κs = search needs
-
-samples-before-requires : tie.Need-samples-before-requires
-samples-before-requires c κs = search needs
+samples-requires : tie.Need-samples-requires
+samples-requires c κs = search needs
 
 unrefused-requires : tie.Need-unrefused-requires
 unrefused-requires c κs = search needs
 
-pair-at-requires-2 : tie.Need-pair-at-requires-2
-pair-at-requires-2 c κs = search needs
+pair-at-requires : tie.Need-pair-at-requires
+pair-at-requires c κs = search needs
 
 flag-of-requires : tie.Need-flag-of-requires
 flag-of-requires c κs = search needs
@@ -45,8 +41,7 @@ tell-requires : tie.Need-tell-requires
 tell-requires c κs = search needs
 
 returns : tie.Need-returns
-unfolding samplesOf
-returns c = rw (← c .before .before .before .before .before .before .before .before .skew-fault .ensures, c .before .before .before .before .before .before .enum-told .given .1, c .before .before .before .unrefused .ensures, c .before .flag-of .ensures, c .before .before .pair-at2 .ensures .0, c .skew-place .ensures .0, c .before .before .before .before .samples-before .ensures .0, c .before .before .before .before .before .pair-at .ensures .0)
+returns c = rw (← c .before .before .before .before .before .before .before .skew-fault .ensures, c .before .before .before .before .before .enum-told .given .1, c .before .before .before .unrefused .ensures, c .before .flag-of .ensures, c .before .before .pair-at .ensures .0, c .skew-place .ensures .0, c .before .before .before .before .samples .ensures .0)
 
 returns-2 : tie.Need-returns-2
 returns-2 c = rw (← c .before .before .before .before .skew-fault .ensures, c .before .before .fault .given .1, c .tell .ensures)
@@ -59,10 +54,9 @@ segd-skew-spec =
     enum-told
     sub-t
     cast-t
-    pair-at-requires
-    samples-before-requires
+    samples-requires
     unrefused-requires
-    pair-at-requires-2
+    pair-at-requires
     flag-of-requires
     skew-place-requires
     enum-known-fault
