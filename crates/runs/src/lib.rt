@@ -1,7 +1,7 @@
 // Whole sample words, read one after another. 0024, 0044, 0048 and 0015 have loops of their own, whose decoders are made of constants; 0022 and 0042 share one, by their tables. And four bytes as one number, for `stream`.
 ghost use mathlib.Core.Path.{_≡_};
 ghost use Prim.Native.Nat.{min, _+_, _*_, _/_, _%_, _≤_, _<_};
-ghost use lib.ListN.{length, set};
+ghost use lib.ListN.{length, take, set};
 ghost use Rattle.basis.specs.Digits.{written, byteIn};
 ghost use Rattle.words.specs.Words.{valueOf, offOne};
 ghost use Rattle.entries.specs.Entries.{byteCode};
@@ -151,18 +151,78 @@ fn off_bytes(code: u16, bytes: &[u8], n: usize) -> usize
     off
 }
 
+// The format code of a word of one byte: 0022, or else 0042.
+fn byte_code(code: u16) -> u16
+    ensures { λ r. ⌜ r ≡ byteCode code ⌝ }
+{
+    if code == 0x0022 { 0x0022 } else { 0x0042 }
+}
+
+// What its table says of a byte, by the columns of its code.
+fn by_columns(code: u16, b: u8) -> Value
+    ensures { λ r. ⌜ r ≡ valueOf (byteCode code) 0 b ⌝ }
+{
+    words::read(byte_code(code), 0, b as u32)
+}
+
+// The first n words of one byte without the tables: for less than eight.
+fn few_words(code: u16, bytes: &[u8], n: usize, out: &mut [i32])
+    requires { ⌜ n ≡ min (length (now bytes)) (length (now out) / 2) ⌝ }
+    ensures { λ _. ⌜ now (out .exit) ≡ over (numbers (byteValue code (now (bytes .entry))) n) (now (out .entry)) ⌝ }
+{
+    let mut k: usize = 0;
+    while k < n {
+        let w = by_columns(code, bytes[k]);
+        put(out, k, w);
+        k += 1;
+    }
+}
+
+// Words k to k + 7, after the first k. Eight turns, always, which the compiler lays out one after another.
+fn eight_words(code: u16, bytes: &[u8], k: usize, out: &mut [i32])
+    requires { ⌜ k + 8 ≤ min (length (now bytes)) (length (now out) / 2) ⌝ }
+    requires { ⌜ take (2 * k) (now out) ≡ numbers (byteValue code (now bytes)) k ⌝ }
+    ensures { λ _. ⌜ now (out .exit) ≡ over (numbers (byteValue code (now (bytes .entry))) (k + 8)) (now (out .entry)) ⌝ }
+{
+    let mut j: usize = 0;
+    while j < 8 {
+        let w = entries::value(code, bytes[k + j]);
+        put(out, k + j, w);
+        j += 1;
+    }
+}
+
+// Where the next eight words of n begin, after the first k: there, or where the last eight do.
+fn next_eight(k: usize, n: usize) -> usize
+    requires { ⌜ (k < n) × (8 ≤ n) ⌝ }
+    ensures { λ r. ⌜ (r ≤ k) × (k < r + 8) × (r + 8 ≤ n) ⌝ }
+{
+    if k <= n - 8 { k } else { n - 8 }
+}
+
+// The first n words of one byte, eight at a time. The last eight may begin among words that are written already, which are then written once more: so there is no loop over a rest, and one place where the tables are read.
+fn first_words(code: u16, bytes: &[u8], n: usize, out: &mut [i32])
+    requires { ⌜ n ≡ min (length (now bytes)) (length (now out) / 2) ⌝ }
+    ensures { λ _. ⌜ now (out .exit) ≡ over (numbers (byteValue code (now (bytes .entry))) n) (now (out .entry)) ⌝ }
+{
+    if n < 8 {
+        return few_words(code, bytes, n, out);
+    }
+    let mut k: usize = 0;
+    while k < n {
+        let next = next_eight(k, n);
+        eight_words(code, bytes, next, out);
+        k = next + 8;
+    }
+}
+
 // Words of one byte, of 0022 or else of 0042. Off-rule words are counted apart, since that takes less than to count each with its sample.
 pub fn byte_words(code: u16, bytes: &[u8], out: &mut [i32]) -> Ran
     ensures { λ r. ⌜ r ≡ ran (wordsIn 1) (byteValue code) (now (bytes .entry)) (now (out .entry)) ⌝ }
     ensures { λ r. ⌜ now (out .exit) ≡ filled (wordsIn 1) (byteValue code) (now (bytes .entry)) (now (out .entry)) ⌝ }
 {
     let n = least(bytes.len(), out.len() / 2);
-    let mut k: usize = 0;
-    while k < n {
-        let w = entries::value(code, bytes[k]);
-        put(out, k, w);
-        k += 1;
-    }
+    first_words(code, bytes, n, out);
     let off = off_bytes(code, bytes, n);
     Ran {
         samples: n,
