@@ -47,7 +47,7 @@ const ROW_15: Row = Row {
     kind: Kind::OnesComplement,
 };
 
-const ROW_22: Row = Row {
+pub const ROW_22: Row = Row {
     code: 0x0022,
     width: 8,
     apart: 0,
@@ -69,7 +69,7 @@ pub const ROW_24: Row = Row {
     kind: Kind::OnesComplement,
 };
 
-const ROW_42: Row = Row {
+pub const ROW_42: Row = Row {
     code: 0x0042,
     width: 8,
     apart: 0,

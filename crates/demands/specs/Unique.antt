@@ -11,6 +11,8 @@ use Rattle.codes.proofs.bits.Reads as codes-bits
 use Rattle.words.proofs.read_word.Reads as words-read-word
 use Rattle.words.proofs.read.Reads as words-read
 use Rattle.words.proofs.value15.Reads as words-value15
+use Rattle.words.proofs.value22.Reads as words-value22
+use Rattle.words.proofs.value42.Reads as words-value42
 use Rattle.words.proofs.value24.Reads as words-value24
 use Rattle.words.proofs.value44.Reads as words-value44
 use Rattle.words.proofs.value48.Reads as words-value48
@@ -101,6 +103,8 @@ pub record Unique : Type 0 where
   pub read-word : OneAnswer words-read-word.Post
   pub read : OneAnswer words-read.Post
   pub value15 : OneAnswer words-value15.Post
+  pub value22 : OneAnswer words-value22.Post
+  pub value42 : OneAnswer words-value42.Post
   pub value24 : OneAnswer words-value24.Post
   pub value44 : OneAnswer words-value44.Post
   pub value48 : OneAnswer words-value48.Post

@@ -151,18 +151,15 @@ fn off_bytes(code: u16, bytes: &[u8], n: usize) -> usize
     off
 }
 
-// The format code of a word of one byte: 0022, or else 0042.
-fn byte_code(code: u16) -> u16
-    ensures { λ r. ⌜ r ≡ byteCode code ⌝ }
-{
-    if code == 0x0022 { 0x0022 } else { 0x0042 }
-}
-
 // What its table says of a byte, by the columns of its code.
 fn by_columns(code: u16, b: u8) -> Value
     ensures { λ r. ⌜ r ≡ valueOf (byteCode code) 0 b ⌝ }
 {
-    words::read(byte_code(code), 0, b as u32)
+    if code == 0x0022 {
+        words::value22(b)
+    } else {
+        words::value42(b)
+    }
 }
 
 // The first n words of one byte without the tables: for less than eight.

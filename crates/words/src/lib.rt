@@ -260,6 +260,44 @@ pub fn value15(c: u32, word: u16) -> Value
     }
 }
 
+// A word of 0022.
+pub fn value22(word: u8) -> Value
+    ensures { λ r. ⌜ r ≡ valueOf 0x0022 0 word ⌝ }
+{
+    let r = codes::ROW_22;
+    let kind = r.kind;
+    as_value(sample(
+        kind,
+        r.width,
+        r.apart,
+        r.fraction,
+        r.base,
+        r.exponent,
+        r.bias,
+        0,
+        word as u32,
+    ))
+}
+
+// A word of 0042.
+pub fn value42(word: u8) -> Value
+    ensures { λ r. ⌜ r ≡ valueOf 0x0042 0 word ⌝ }
+{
+    let r = codes::ROW_42;
+    let kind = r.kind;
+    as_value(sample(
+        kind,
+        r.width,
+        r.apart,
+        r.fraction,
+        r.base,
+        r.exponent,
+        r.bias,
+        0,
+        word as u32,
+    ))
+}
+
 // A word of 0024.
 pub fn value24(word: u16) -> Value
     ensures { λ r. ⌜ r ≡ valueOf 0x0024 0 word ⌝ }
