@@ -195,10 +195,6 @@ module _ {f : ℕ → Value} {a n : ℕ} {out₀ out : List ℤ} {off k : ℕ} (
       let e : n ≡ k = omega (arith, d .within) in
       rw e done-far
 
-  -- their off-rule words, counted apart
-  pub done-told : n ≤ k → {t : ℕ} → t ≡ offs f n → t ≡ off
-  done-told h e = e ∙ sym (done-all h .0)
-
 -- off-rule words counted apart: as many as there are, at each turn of the loop
 pub done-zero : (f : ℕ → Value) (a n : ℕ) (out : List ℤ) → n ≡ min a (length out / 2) → Done f a n out out (offs f 0) 0
 unfolding offs upto

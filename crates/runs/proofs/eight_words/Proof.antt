@@ -4,7 +4,6 @@ use Prim.Native.Nat.{min, _+_, _-_, _/_, _≤_}
 use mathlib.Core.Path.{_≡_, refl}
 use native.Mathlib.Nat.{add-zero}
 use native.Mathlib.Omega.{arith}
-use denote.Ref.{now}
 use lib.ListN.{length}
 use Rattle.runs.specs.Words.{byteValue}
 use Rattle.runs.specs.Runs.{offs}

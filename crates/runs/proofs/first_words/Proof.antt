@@ -1,6 +1,6 @@
 -- `runs::first_words` meets its contract: its loop keeps that the first k words are written.
 -- Assumes nothing.
-use Prim.Native.Nat.{min, _+_, _-_, _/_, _≤_}
+use Prim.Native.Nat.{_-_}
 use native.Mathlib.Omega.{arith}
 use borrow.Author.Needs.{needs}
 use lib.ListN.{length}
