@@ -1,11 +1,5 @@
 // Channel sets and samples: what a set is, where a sample stands, its skew and its time.
-use crate::answers::block;
-use crate::blocks::between_dummies;
-use crate::blocks::doubled;
-use crate::blocks::many;
-use crate::blocks::one_set;
-use crate::blocks::put;
-use crate::blocks::switched;
+use crate::files::load;
 use crate::print::length;
 use crate::print::number;
 use crate::print::refused;
@@ -23,16 +17,6 @@ fn pair(name: &[u8], first: u32, second: u32) {
     number(first);
     text(b" ");
     number(second);
-}
-
-// Byte n of a block or a sheet made x.
-fn mark(name: &[u8], b: &mut [u8], n: u32, x: u8) {
-    put(b, n as usize, x);
-    text(name);
-    number(n);
-    text(b" made ");
-    number(x as u32);
-    text(b"\n");
 }
 
 fn described(b: &[u8], scan_type: u32, set: u32) {
@@ -125,24 +109,21 @@ fn sheet_of(b: &[u8], sheet: &[u8]) {
 
 // E6: byte 203 is byte 11 of set 2 of scan type 2, whose upper half is the channel type.
 pub(crate) fn of_e6() {
-    let mut b = [0; 288];
-    switched(&mut b);
-    mark(b"byte ", &mut b, 203, 0x50);
-    described(&b, 1, 2);
-    described(&b, 2, 1);
-    described(&b, 2, 2);
-    described(&b, 2, 3);
-    described(&b, 3, 1);
+    let mut space = io::buffer();
+    let n = load(b"e6", &mut space);
+    let b: &[u8] = &space[..n];
+    described(b, 1, 2);
+    described(b, 2, 1);
+    described(b, 2, 2);
+    described(b, 2, 3);
+    described(b, 3, 1);
 }
 
 // E8: bytes 367 and 415 are the skew of channel 11 of set 2 of scan type 2, in its two subscans. The base scan is 4 ms.
 pub(crate) fn of_e8() {
-    let mut b = [0; 480];
-    doubled(&mut b);
-    put(&mut b, 23, 64);
-    mark(b"byte ", &mut b, 367, 111);
-    mark(b"byte ", &mut b, 415, 159);
-    samples_of_e8(&b, &[7; 3]);
+    let mut space = io::buffer();
+    let n = load(b"e8", &mut space);
+    samples_of_e8(&space[..n], &[7; 3]);
 }
 
 // The sheet is not looked at.
@@ -158,34 +139,36 @@ fn samples_of_e8(b: &[u8], sheet: &[u8]) {
     timed(b, sheet, 2, 62, 0);
 }
 
-// Sets of no channels, and a scan of no samples.
+// 4 channels between two sets of none.
 pub(crate) fn of_dummies() {
-    let mut b = [0; 128];
-    between_dummies(&mut b);
-    block(b"of dummy sets", &b);
-    placed(&b, 1, 0);
-    placed(&b, 1, 3);
-    placed(&b, 1, 4);
-    let mut none = [0; 64];
-    one_set(&mut none, 0x0008, 0x0000, 0);
-    block(b"of no samples", &none);
-    placed(&none, 1, 0);
-    sheet_of(&none, b"");
-    sheet_of(&none, &[0; 2]);
+    let mut space = io::buffer();
+    let n = load(b"dummy_sets", &mut space);
+    let b: &[u8] = &space[..n];
+    placed(b, 1, 0);
+    placed(b, 1, 3);
+    placed(b, 1, 4);
 }
 
-// As many scan types as there can be. The last one's 4 samples have bytes 393 to 396 of the sheet, and byte 3181 is byte 13 of its set.
+// A scan of no samples.
+pub(crate) fn of_none() {
+    let mut space = io::buffer();
+    let n = load(b"no_samples", &mut space);
+    let b: &[u8] = &space[..n];
+    placed(b, 1, 0);
+    sheet_of(b, b"");
+    sheet_of(b, &[0; 2]);
+}
+
+// As many scan types as there can be. The last one's 4 samples have bytes 393 to 396 of the sheet, of which the first is 1.
 pub(crate) fn of_many() {
-    let mut b = [0; 3200];
-    many(&mut b);
-    block(b"of 99 scan types", &b);
-    described(&b, 99, 1);
-    described(&b, 100, 1);
-    let mut sheet = [0; 396];
-    mark(b"sheet's byte ", &mut sheet, 393, 1);
-    by_sheet(&b, &sheet, &[1; 395]);
-    put(&mut b, 3181, 0x1A);
-    block(b"with 1A in byte 3181", &b);
+    let mut space = io::buffer();
+    let n = load(b"types_99", &mut space);
+    let b: &[u8] = &space[..n];
+    described(b, 99, 1);
+    described(b, 100, 1);
+    let mut sheet = io::buffer();
+    let k = load(b"sheet_99", &mut sheet);
+    by_sheet(b, &sheet[..k], &[1; 395]);
 }
 
 fn by_sheet(b: &[u8], sheet: &[u8], short: &[u8]) {
