@@ -12,14 +12,15 @@ use Rattle.basis.specs.Choice.{pick}
 use Rattle.basis.specs.Upto.{upto, listUpto}
 use Rattle.refusals.specs.declared.Fault.{Fault}
 use Rattle.refusals.specs.declared.Fault.the-variants.{Clear}
+use Rattle.block.specs.Bytes.{byte}
 use Rattle.general.specs.General.{codeOf, intervalOf, scanTypes, scansPerBlock}
 use Rattle.header.specs.Faults.{headerFault}
-use Rattle.header.proofs.Accepted.{types-few}
+use Rattle.header.proofs.Accepted.{types-few, sizes}
 use Rattle.header.specs.Answers.{headerOf, headerAnswer}
 use Rattle.scan.specs.declared.State.{State}
 use Rattle.scan.specs.Fit.{fitb}
 use Rattle.stream.specs.declared.Answer.{Answer as Given}
-use Rattle.body.proofs.Opens.{took, fresh-fit, unfit-not}
+use Rattle.body.proofs.Opens.{took, open-fit, unfit-not}
 use Rattle.stream.specs.Calls as K
 use Rattle.body.specs.Ends as N
 use Rattle.body.specs.Open as O
@@ -33,9 +34,9 @@ use Rattle.agree.specs.Agreement.{Agreement, TurnedAway}
 use Rattle.agree.proofs.Plans.{scan}
 use Rattle.agree.proofs.Form.{headOf}
 use Rattle.agree.proofs.Whole.{stopIn, AgreesAt, agree-pieces}
-use Rattle.agree.proofs.Bytes.{small}
+use Rattle.agree.proofs.Bytes.{below, small}
 use Rattle.agree.proofs.Public.{portion-answer, room-answer, end-answer, runOf, read-fits, read-pieces, read-append}
-use Rattle.agree.proofs.Link.{planOf, planned, scan-same, shape-same, head-fits}
+use Rattle.agree.proofs.Link.{planOf, scan-same, shape-same}
 
 -- two numbers for each sample
 twice : (f : ℕ → List ℤ) → ((i : ℕ) → length (f i) ≡ 2) → (n : ℕ) → length (listUpto f n) ≡ 2 * n
@@ -61,16 +62,17 @@ module _ (b : List ℕ) (bytes : Bytes b) (clear : headerFault b ≡ Clear) wher
       top = omega arith
 
   opened-fits : fitb (O.opened b .state) ≡ true
-  opened-fits = rw opened-state (fresh-fit (headOf (planOf b)) ∙ head-fits b clear bytes)
+  unfolding headerAnswer byte
+  opened-fits = open-fit b (headerOf b) (λ n. below b bytes (n - 1)) (rw clear)
 
   abbrev opening : Reading
   opening = record { state = O.opened b .state; numbers = [] }
 
   -- the closed form's agreement, for the reader from its opening
-  at : (cs : List Call) (h : BytesIn cs) → AgreesAt (planOf b) (planned b clear .pos) (planned b clear .some) (planned b clear .kind) (types-few b clear .0) (bodyOf cs) (small cs h) (runOf (readingOf b cs))
+  at : (cs : List Call) (h : BytesIn cs) → AgreesAt (planOf b) (sizes b clear) (types-few b clear .0) (bodyOf cs) (small cs h) (runOf (readingOf b cs))
   at cs h =
       rw (read-pieces opening opened-fits cs, opened-state)
-      (agree-pieces (planOf b) (planned b clear .pos) (planned b clear .some) (planned b clear .kind) (types-few b clear .0) (taken cs) (small cs h))
+      (agree-pieces (planOf b) (sizes b clear) (types-few b clear .0) (taken cs) (small cs h))
 
   fits : (cs : List Call) → fitb (readingOf b cs .state) ≡ true
   fits cs = read-fits opening opened-fits cs

@@ -1,13 +1,14 @@
 -- The reader's state after p bytes and i block ends, in closed form by the rules' own words.
 -- Assumes nothing.
-use Prim.Native.Nat.{ℕ, zero, suc, _+_, _-_, _*_, _/_, _%_, _≤_, _<_}
-use mathlib.Core.Path.{_≡_, refl, sym, ap, _∙_}
+use Prim.Native.Nat.{ℕ, zero, suc, _+_, _-_, _*_, _/_, _%_, _^_, _≤_, _<_, _∣_}
+use mathlib.Core.Path.{_≡_, refl, sym, ap, _∙_, subst}
 use mathlib.Core.Bool.{Bool, true, false, not}
 use mathlib.Core.Option.{Option, none, some}
-use native.Mathlib.Nat.{add-zero, mul-mod-left, le-div-iff-mul-le, mul-assoc}
+use native.Mathlib.Nat.{add-zero, add-suc, mul-mod-left, le-div-iff-mul-le, mul-assoc, mod-one, pow-suc, one-le-pow, dvd-mul-left, mod-mod-of-dvd}
 use native.Mathlib.Omega.{arith}
-use native.Mathlib.Numerals.{add-one, add-two, add-three}
-use lib.Dec.{eqb, ltb}
+use lib.Arith.{mod-mul, digits-div, digits-mod}
+use lib.Pow.{pow-add}
+use lib.Dec.{eqb, ltb, lit<}
 use borrow.Author.Tests.{eqb-true, eqb-false, le-ltb, eq-eqb, ne-eqb, lt-leb}
 use Rattle.basis.specs.Choice.{pick, _and_, _or_}
 use Rattle.basis.specs.Digits.{written}
@@ -22,7 +23,7 @@ use Rattle.rules.specs.Scans.{inScan, twiOf, itbOf, dpOf, timeOf, flipOf, typeO
 use Rattle.rules.specs.Faults.{overAt, fullAt}
 use Rattle.rules.specs.Samples.{offAt}
 use Rattle.rules.specs.Outcome.{lastType, firstItb, orNext, firstWindow}
-use Rattle.agree.proofs.Plans.{Plan, scan, shapeIn, samplesIn, Width, w1, w2, w4}
+use Rattle.agree.proofs.Plans.{Plan, scan, shapeIn, samplesIn}
 use Rattle.agree.proofs.Tests.{same-test, bit-low, bit-test, not-not, le-test, top-step, isZero, in-first, seen, seen-still}
 
 -- what the reader's state keeps of a plan
@@ -60,43 +61,31 @@ module _ (byte : ℕ → ℕ) where
   tail zero = 0
   tail (suc p) = S.shift (tail p) (byte p)
 
-  big-one : (a : ℕ) → written 256 byte a 1 ≡ byte a
-  unfolding written
-  big-one a = rw (add-zero a) (omega arith)
-
-  pub big-two : (a : ℕ) → written 256 byte a 2 ≡ byte a * 256 + byte (suc a)
-  unfolding written
-  big-two a = rw (add-zero a, add-one a) (omega arith)
-
-  big-four : (a : ℕ) → written 256 byte a 4 ≡ ((byte a * 256 + byte (suc a)) * 256 + byte (suc (suc a))) * 256 + byte (suc (suc (suc a)))
-  unfolding written
-  big-four a = rw (add-zero a, add-one a, add-two a, add-three a) (omega arith)
-
   module _ (small : (p : ℕ) → byte p < 256) where
-    tail-one : (a : ℕ) → tail (suc a) % 256 ≡ byte a
-    unfolding S.shift
-    tail-one a = omega (arith, small a)
-
-    tail-two : (a : ℕ) → tail (suc (suc a)) % 65536 ≡ byte a * 256 + byte (suc a)
-    unfolding S.shift
-    tail-two a = omega (arith, small a, small (suc a))
-
     pub tail-four : (a : ℕ) → tail (suc (suc (suc (suc a)))) ≡ ((byte a * 256 + byte (suc a)) * 256 + byte (suc (suc a))) * 256 + byte (suc (suc (suc a)))
     unfolding S.shift
     tail-four a = omega (arith, small a, small (suc a), small (suc (suc a)), small (suc (suc (suc a))))
 
-    -- the last w bytes are the word that ends there
-    pub low-same : (a p w : ℕ) → Width w → suc p ≡ a + w → S.low (S.shift (tail p) (byte p)) w ≡ written 256 byte a w
-    unfolding S.low
-    low-same a p w (w1 e) h = let q : p ≡ a = omega arith in rw (e, q) (tail-one a ∙ sym (big-one a))
-    low-same a p w (w2 e) h = let q : p ≡ suc a = omega arith in rw (e, q) (tail-two a ∙ sym (big-two a))
-    low-same a p w (w4 e) h =
-        let q : p ≡ suc (suc (suc a)) = omega arith in
-        rw (e, q) (all (tail (suc (suc (suc (suc a))))) (tail-four a) ∙ sym (big-four a))
-      where
-        all : (t : ℕ) → t ≡ ((byte a * 256 + byte (suc a)) * 256 + byte (suc (suc a))) * 256 + byte (suc (suc (suc a)))
-            → t % 4294967296 ≡ ((byte a * 256 + byte (suc a)) * 256 + byte (suc (suc a))) * 256 + byte (suc (suc (suc a)))
-        all t e = omega (arith, e, small a, small (suc a), small (suc (suc a)), small (suc (suc (suc a))))
+    -- the last w of them are the word that ends there
+    low-tail : (a w : ℕ) → w ≤ 4 → S.low (tail (a + w)) w ≡ written 256 byte a w
+    unfolding S.low S.shift written
+    low-tail a zero h = mod-one (tail (a + 0))
+    low-tail a (suc w) h =
+        let f : 3 - w + w ≡ 3 = omega (arith, h) in
+        let d : 256 ^ w ∣ 16777216 = subst (λ (x : ℕ). 256 ^ w ∣ x) (sym (pow-add 256 (3 - w) w) ∙ ap (λ (x : ℕ). 256 ^ x) f) (dvd-mul-left (256 ^ w) (256 ^ (3 - w))) in
+        let b : byte (a + w) < 256 = small (a + w) in
+        rw (
+          add-suc a w,
+          pow-suc 256 w,
+          mod-mul (tail (a + w) % 16777216 * 256 + byte (a + w)) {m = 256 ^ w} {c = 256} (one-le-pow w 256 (lit< tt)) (lit< tt),
+          digits-div (tail (a + w) % 16777216) b,
+          digits-mod (tail (a + w) % 16777216) b,
+          mod-mod-of-dvd (256 ^ w) (tail (a + w)) d,
+          low-tail a w (omega (arith, h)),
+        )
+
+    pub low-same : (a p w : ℕ) → w ≤ 4 → suc p ≡ a + w → S.low (S.shift (tail p) (byte p)) w ≡ written 256 byte a w
+    low-same a p w h e = ap (λ (n : ℕ). S.low (tail n) w) e ∙ low-tail a w h
 
   module _ (k : Plan) where
     -- where a group's exponents end

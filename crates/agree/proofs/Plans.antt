@@ -12,7 +12,8 @@ use borrow.Author.Tests.{ltb-true, ltb-false}
 use Rattle.basis.specs.Digits.{written}
 use Rattle.basis.specs.Fields.{field}
 use Rattle.basis.proofs.Digits.{Next, along, wrap, next}
-use Rattle.codes.specs.Codes.{groupOf, perOf, leadOf, wordBytesOf}
+use Rattle.codes.specs.Codes.{groupOf, perOf, leadOf, wordBytesOf, bitsOf}
+use Rattle.codes.proofs.Rows.{Sized}
 use Rattle.words.specs.Words.{valueOf}
 use Rattle.layout.specs.Places.{groupBytes}
 use Rattle.rules.specs.Scans.{Shape}
@@ -47,15 +48,9 @@ samples k = k .groups * perOf (k .code)
 abbrev pub shapeIn : Plan → Shape
 shapeIn k = record { code = k .code; scan = scan k; samples = samples k; interval = k .interval; types = k .types; block = k .block }
 
--- the widths of a single word, and what a code's groups are: one word each, or four after their exponents
-pub data Width (w : ℕ) : Type 0 where
-  w1 : w ≡ 1 → Width w
-  w2 : w ≡ 2 → Width w
-  w4 : w ≡ 4 → Width w
-
-pub data Kind (k : Plan) : Type 0 where
-  singles : (groupOf (k .code) ≡ 10 → ⊥) → groupOf (k .code) ≡ width k → lead k ≡ 0 → per k ≡ 1 → Width (width k) → Kind k
-  fours : groupOf (k .code) ≡ 10 → lead k ≡ 2 → per k ≡ 4 → width k ≡ 2 → Kind k
+-- the sizes of a code that has a row
+abbrev pub Sizes : Plan → Type 0
+Sizes k = Sized (groupOf (k .code)) (per k) (lead k) (width k) (bitsOf (k .code))
 
 -- samples completed in r bytes of scan j
 abbrev pub samplesIn : Plan → ℕ → ℕ → ℕ

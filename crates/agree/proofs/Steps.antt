@@ -9,7 +9,7 @@ use native.Mathlib.Nat.{div-add-mod', mod-lt, div-one, mul-le-mul-right, mod-mod
 use native.Mathlib.Omega.{arith}
 use native.Mathlib.Numerals.{add-one}
 use lib.Arith.{digits-mod, digits-lt}
-use lib.Dec.{eqb, ltb}
+use lib.Dec.{eqb, ltb, lit≤}
 use lib.IntN.{ℤ}
 use borrow.Author.Tests.{eqb-true, eqb-false, lt-ltb, le-ltb, eq-eqb, ne-eqb, le-leb, lt-leb}
 use Rattle.basis.specs.Choice.{pick, _and_, _or_}
@@ -22,6 +22,7 @@ use Rattle.refusals.specs.declared.Refusal.the-variants.{Long, Block, Sync, Tim
 use Rattle.refusals.specs.declared.Fault.the-variants.{Clear, At}
 use Rattle.refusals.specs.Table.{said}
 use Rattle.codes.specs.Codes.{groupOf}
+use Rattle.codes.proofs.Rows.{Words, alone, fours}
 use Rattle.words.specs.declared.Value.{Value}
 use Rattle.words.specs.Words.{valueOf}
 use Rattle.scan.specs.declared.State.{State}
@@ -31,7 +32,7 @@ use Rattle.scan.specs.Step as S
 use Rattle.rules.specs.Scans.{inScan, dpOf, phaseWrong, stepWrong}
 use Rattle.rules.specs.Faults.{scanFault, byteFault}
 use Rattle.rules.specs.Samples.{valueAt, numbersAt, offAt}
-use Rattle.agree.proofs.Plans.{Plan, per, lead, width, group, scan, shapeIn, samplesIn, Width, w2, Kind, singles, fours, samples-wrap, Grown, same, more, grown, inGroup, turn, groupStart, wordStart, value-now}
+use Rattle.agree.proofs.Plans.{Plan, per, lead, width, group, scan, shapeIn, samplesIn, samples-wrap, Grown, same, more, grown, inGroup, turn, groupStart, wordStart, value-now}
 use Rattle.agree.proofs.Tests.{Spot, start, fourth, time, nought, word, spot}
 use Rattle.agree.proofs.Form.{headOf, tail, low-same, leadEnd, exps, exps-next, trackAt, track-all, track-still, form, Inv, past, full-same, not-full, phased-same, typed-same, instep-same, timed-same}
 
@@ -216,13 +217,13 @@ module _ (byte : ℕ → ℕ) (k : Plan) (pos : 0 < width k) (some : 0 < per k) 
       shown u = grown k pos some j r u
 
       -- the word that the byte ends is the sample's
-      word-here : 8 ≤ r → lead k ≤ inGroup k pos some r → suc ((inGroup k pos some r - lead k) % width k) ≡ width k → Width (width k)
+      word-here : 8 ≤ r → lead k ≤ inGroup k pos some r → suc ((inGroup k pos some r - lead k) % width k) ≡ width k → width k ≤ 4
           → S.low (S.shift (tail byte p) (byte p)) (width k) ≡ written 256 byte (wordStart k pos some byte j r) (width k)
       word-here u a b d =
           low-same byte small (wordStart k pos some byte j r) p (width k) d
           (omega (arith, u, a, b, div-add-mod' p (scan k), div-add-mod' (r - 8) (group k), div-add-mod' (inGroup k pos some r - lead k) (width k)))
 
-      value-here : 8 ≤ r → lead k ≤ inGroup k pos some r → suc ((inGroup k pos some r - lead k) % width k) ≡ width k → Width (width k)
+      value-here : 8 ≤ r → lead k ≤ inGroup k pos some r → suc ((inGroup k pos some r - lead k) % width k) ≡ width k → width k ≤ 4
           → valueAt (shapeIn k) byte (samplesIn k j r)
           ≡ valueOf (k .code) (field (written 256 byte (groupStart k pos some byte j r) (lead k)) (4 * (per k - 1 - turn k pos some byte r)) 4) (S.low (S.shift (tail byte p) (byte p)) (width k))
       value-here u a b d =
@@ -234,7 +235,7 @@ module _ (byte : ℕ → ℕ) (k : Plan) (pos : 0 < width k) (some : 0 < per k) 
       no-part a n at e = rw (e, zero-div (2 ^ at))
 
       -- a word by itself: where it ends, and its exponent, which is 0
-      plain-hop : (groupOf (k .code) ≡ 10 → ⊥) → groupOf (k .code) ≡ width k → lead k ≡ 0 → per k ≡ 1 → Width (width k) → 8 ≤ r
+      plain-hop : (groupOf (k .code) ≡ 10 → ⊥) → groupOf (k .code) ≡ width k → lead k ≡ 0 → per k ≡ 1 → width k ≤ 4 → 8 ≤ r
           → Hop i s p (S.plain (form byte k i p) (byte p) (groupOf (k .code)) r)
       unfolding S.plain pick S.quiet
       plain-hop n w x y d u = rw w (go (shown u) (next (width k) (r - 8) pos))
@@ -305,7 +306,7 @@ module _ (byte : ℕ → ℕ) (k : Plan) (pos : 0 < width k) (some : 0 < per k) 
         exps-at zero l =
             let e : at (2 + 0) ≡ suc (at 1) = omega arith in
             let d : suc (at 1) ≡ groupStart k pos some byte j r + 2 = omega (arith, begins) in
-            rw (e, exps-next byte k (at 1), lead-at 1 (omega arith)) (low-same byte small (groupStart k pos some byte j r) (at 1) 2 (w2 refl) d)
+            rw (e, exps-next byte k (at 1), lead-at 1 (omega arith)) (low-same byte small (groupStart k pos some byte j r) (at 1) 2 (lit≤ tt) d)
         exps-at (suc m) l =
             let e : at (2 + suc m) ≡ suc (at (2 + m)) = omega arith in
             rw (e, exps-next byte k (at (2 + m)), lead-at (2 + m) (omega arith), ne-eqb (2 + m) 1 (λ w. omega arith)) (exps-at m (omega arith))
@@ -361,15 +362,15 @@ module _ (byte : ℕ → ℕ) (k : Plan) (pos : 0 < width k) (some : 0 < per k) 
                 let w : h % 2 ≡ 0 → ⊥ = eqb-false (h % 2) 0 e in
                 rw (e, f)
                 (sampled _ u (lead-now ∙ f) n
-                (ap₂ (valueOf (k .code)) (part (omega arith) (omega arith)) (ap (S.low (S.shift (tail byte p) (byte p))) (sym z)) ∙ sym (value-here u a q (w2 z))))
+                (ap₂ (valueOf (k .code)) (part (omega arith) (omega arith)) (ap (S.low (S.shift (tail byte p) (byte p))) (sym z)) ∙ sym (value-here u a q (omega (arith, z)))))
 
-      word-hop : Kind k → 8 ≤ r → Hop i s p (S.word (form byte k i p) (byte p) r)
+      word-hop : Words (groupOf (k .code)) (per k) (lead k) (width k) → 8 ≤ r → Hop i s p (S.word (form byte k i p) (byte p) r)
       unfolding S.word pick
-      word-hop (singles n w x y d) u = rw (ne-eqb (groupOf (k .code)) 10 n) (plain-hop n w x y d u)
-      word-hop (fours t x y z) u = rw (eq-eqb (groupOf (k .code)) 10 t) (grouped-hop t x y z u)
+      word-hop (alone w y x d o) u = let n : groupOf (k .code) ≡ 10 → ⊥ = λ t. omega (arith, w, d) in rw (ne-eqb (groupOf (k .code)) 10 n) (plain-hop n w x y d u)
+      word-hop (fours t y x z) u = rw (eq-eqb (groupOf (k .code)) 10 t) (grouped-hop t x y z u)
 
     -- one byte, wherever it stands
-    pub step-hop : Kind k → (i s : ℕ) → Inv byte k i s p → Hop i s p (S.step (form byte k i p) (byte p))
+    pub step-hop : Words (groupOf (k .code)) (per k) (lead k) (width k) → (i s : ℕ) → Inv byte k i s p → Hop i s p (S.step (form byte k i p) (byte p))
     unfolding S.step pick
     step-hop kind i s inv = go (eqb p 4294967295) refl
       where

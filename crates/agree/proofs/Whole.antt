@@ -20,7 +20,6 @@ use Rattle.refusals.specs.declared.Fault.{Fault}
 use Rattle.refusals.specs.declared.Fault.the-variants.{Clear, At}
 use Rattle.refusals.specs.Order.{when, orElse}
 use Rattle.refusals.specs.Table.{said, stopRefusal}
-use Rattle.codes.specs.Codes.{groupOf, perOf}
 use Rattle.scan.specs.declared.State.{State}
 use Rattle.scan.specs.declared.Stepped.{Stepped}
 use Rattle.scan.specs.Step as S
@@ -45,7 +44,7 @@ use Rattle.rules.proofs.Tapes.{size-last}
 use Rattle.rules.proofs.Laws.{Halts, long, block, sync, timing, phase, halts-at, byte-halts, end-halts, stop-halts}
 use Rattle.rules.proofs.Machine.{Run, Still, Follows, feed, pieces, uncut, pieces-uncut, Ran, went, fell, ran-all}
 use Rattle.agree.specs.Answers.{itbGiven, windowGiven, closedOf}
-use Rattle.agree.proofs.Plans.{Plan, per, width, group, scan, samples, shapeIn, Kind, singles, fours, none-yet, before-is}
+use Rattle.agree.proofs.Plans.{Plan, group, scan, samples, shapeIn, Sizes, wide, none-yet, before-is}
 use Rattle.agree.proofs.Form.{headOf, itbs, twis, wins, form, exps, Begun, sole, many, Inv}
 use Rattle.agree.proofs.Steps.{outAt, haltAt, Hop, on, off, step-hop}
 use Rattle.agree.proofs.Ends.{due-same, shut-same, inv-next, inv-end}
@@ -114,18 +113,18 @@ scanned sh byte zero l = l
 scanned sh byte (suc n) l = omega arith
 
 -- ---- the reader's bytes and block ends, by the closed form
-module _ (k : Plan) (pos : 0 < width k) (some : 0 < per k) (kind : Kind k) (typed : 1 ≤ k .types) (d : Body) (small : (p : ℕ) → byteAt d p < 256) where
+module _ (k : Plan) (sized : Sizes k) (typed : 1 ≤ k .types) (d : Body) (small : (p : ℕ) → byteAt d p < 256) where
   abbrev halted : Refusal → ℕ → ℕ → State
-  halted = haltAt (byteAt d) k pos some small
+  halted = haltAt (byteAt d) k (sized .wide) (sized .some) small
 
   abbrev out : ℕ → List ℤ
-  out = outAt (byteAt d) k pos some small
+  out = outAt (byteAt d) k (sized .wide) (sized .some) small
 
   abbrev Stepping : ℕ → ℕ → ℕ → Type 0
-  Stepping i s p = Hop (byteAt d) k pos some small i s p (S.step (form (byteAt d) k i p) (byteAt d p))
+  Stepping i s p = Hop (byteAt d) k (sized .wide) (sized .some) small i s p (S.step (form (byteAt d) k i p) (byteAt d p))
 
   hop : (i s p : ℕ) → Inv (byteAt d) k i s p → Stepping i s p
-  hop i s p h = step-hop (byteAt d) k pos some small p kind i s h
+  hop i s p h = step-hop (byteAt d) k (sized .wide) (sized .some) small p (sized .words) i s h
 
   stays : (i p q : ℕ) (r : Refusal) → Halts q r → Still stepOf emitOf endOf (halted r i p)
   unfolding S.still S.mAndX S.halted pick
@@ -201,11 +200,11 @@ module _ (k : Plan) (pos : 0 < width k) (some : 0 < per k) (kind : Kind k) (type
   -- ---- the first state, and the last
   opens : O.fresh (headOf k) ≡ form (byteAt d) k 0 0
   unfolding O.fresh exps upto pick
-  opens = rw (zero-div (scan k), zero-mod (scan k), none-yet k pos some (0 * samples k), zero-mul (samples k))
+  opens = rw (zero-div (scan k), zero-mod (scan k), none-yet k (sized .wide) (sized .some) (0 * samples k), zero-mul (samples k))
 
   no-out : _≡_ {A = List ℤ} [] (out 0)
   unfolding upto
-  no-out = rw (zero-div (scan k), zero-mod (scan k), none-yet k pos some (0 * samples k), zero-mul (samples k))
+  no-out = rw (zero-div (scan k), zero-mod (scan k), none-yet k (sized .wide) (sized .some) (0 * samples k), zero-mul (samples k))
 
   inv0 : Inv (byteAt d) k 0 0 0
   inv0 = record { begun = go (eqb (k .block) 0) refl; phase = λ l. absurd (omega arith) }
@@ -216,18 +215,9 @@ module _ (k : Plan) (pos : 0 < width k) (some : 0 < per k) (kind : Kind k) (type
 
   per-same : N.perScan (headOf k) ≡ samples k
   unfolding N.perScan
-  per-same = go kind
-    where
-      m : scan k - 8 ≡ k .groups * group k
-      m = omega arith
-
-      go : Kind k → (scan k - 8) / groupOf (k .code) * perOf (k .code) ≡ samples k
-      go (singles n w x y b) =
-          let g : group k ≡ groupOf (k .code) = rw (x, y, w) (omega arith) in
-          rw (m, g, mul-div-cancel (k .groups) (let z : 0 < groupOf (k .code) = omega (arith, pos, w) in z))
-      go (fours t x y z) =
-          let g : group k ≡ groupOf (k .code) = rw (x, y, z, t) in
-          rw (m, g, mul-div-cancel (k .groups) (let z : 0 < groupOf (k .code) = omega (arith, t) in z))
+  per-same =
+      let m : scan k - 8 ≡ k .groups * group k = omega arith in
+      rw (sized .sum, m, mul-div-cancel (k .groups) (wide k (sized .wide) (sized .some)))
 
   -- the report of a whole body, by the state that has read it
   tally-same : (j : ℕ) → size d % scan k ≡ 0 → k .types ≤ lastType (shapeIn k) (byteAt d) (size d / scan k)
@@ -236,7 +226,7 @@ module _ (k : Plan) (pos : 0 < width k) (some : 0 < per k) (kind : Kind k) (type
   tally-same j z l =
       rw (
         z,
-        none-yet k pos some (size d / scan k * samples k),
+        none-yet k (sized .wide) (sized .some) (size d / scan k * samples k),
         per-same,
         itb-told (shapeIn k) (byteAt d) (size d / scan k) (scanned (shapeIn k) (byteAt d) (size d / scan k) (omega (arith, typed, l))),
         window-told (firstWindow (shapeIn k) (byteAt d) (size d / scan k)),
@@ -296,17 +286,17 @@ module _ (k : Plan) (pos : 0 < width k) (some : 0 < per k) (kind : Kind k) (type
       go (went f c h) =
           rw c
           (record {
-            samples = rw (f, before-is k pos some (byteAt d) (size d));
+            samples = rw (f, before-is k (sized .wide) (sized .some) (byteAt d) (size d));
             stops = sym f;
             closes = finish-same (ends d) (startOf d (ends d)) (h .begun) (size-last d) f;
           })
-      go (fell r i f c) = rw c (record { samples = rw (f, before-is k pos some (byteAt d) (stopPlace r)); stops = halted-stop (form (byteAt d) k i (stopPlace r)) r (stop-halts (shapeIn k) d r f) ∙ sym f; closes = halted-finish (form (byteAt d) k i (stopPlace r)) r (stop-halts (shapeIn k) d r f) ∙ (unfold closing in (rw f)) })
+      go (fell r i f c) = rw c (record { samples = rw (f, before-is k (sized .wide) (sized .some) (byteAt d) (stopPlace r)); stops = halted-stop (form (byteAt d) k i (stopPlace r)) r (stop-halts (shapeIn k) d r f) ∙ sym f; closes = halted-finish (form (byteAt d) k i (stopPlace r)) r (stop-halts (shapeIn k) d r f) ∙ (unfold closing in (rw f)) })
 
 -- the same for a body that is handed over in pieces
-pub agree-pieces : (k : Plan) (pos : 0 < width k) (any : 0 < per k) (kind : Kind k) (typed : 1 ≤ k .types) (es : List Piece) (small : (p : ℕ) → byteAt (spelled es) p < 256)
-    → AgreesAt k pos any kind typed (spelled es) small (pieces stepOf emitOf endOf (record { st = O.fresh (headOf k); out = [] }) es)
-agree-pieces k pos any kind typed es small =
-    rw (pieces-uncut stepOf emitOf endOf (record { st = O.fresh (headOf k); out = [] }) es) (agree-uncut k pos any kind typed (spelled es) small)
+pub agree-pieces : (k : Plan) (sized : Sizes k) (typed : 1 ≤ k .types) (es : List Piece) (small : (p : ℕ) → byteAt (spelled es) p < 256)
+    → AgreesAt k sized typed (spelled es) small (pieces stepOf emitOf endOf (record { st = O.fresh (headOf k); out = [] }) es)
+agree-pieces k sized typed es small =
+    rw (pieces-uncut stepOf emitOf endOf (record { st = O.fresh (headOf k); out = [] }) es) (agree-uncut k sized typed (spelled es) small)
 
 -- a portion as the reader's own contract has it: the state after its bytes, and what they wrote
 pub feed-after : (c : Run State ℤ) (bs : List ℕ) → feed stepOf emitOf endOf c bs ≡ record { st = S.after (c .st) bs; out = c .out ++ S.wrote (c .st) bs }

@@ -22,7 +22,7 @@ use Rattle.header.specs.declared.Answer.{Answer}
 use Rattle.header.specs.declared.Answer.the-variants.{Accepted, Refused}
 use Rattle.header.specs.Faults.{headerFault}
 use Rattle.header.specs.Answers.{headerOf, headerAnswer, answerAfter}
-use Rattle.header.proofs.Accepted.{accepted, multiplexed, types-few, interval-is, scan-is, first-type, scan-in-groups}
+use Rattle.header.proofs.Accepted.{accepted, multiplexed, types-few, interval-is, scan-is, first-type, sizes, scan-in-groups}
 use Rattle.scan.specs.declared.Shape.{Shape}
 use Rattle.scan.specs.Fit.{fitb, fitBy, countsb, trackb, shapeb, shapeBy, wholeb, limitsb, stopb}
 use Rattle.body.specs.Open.{shapeOf, fresh, unfit, opened}
@@ -70,7 +70,7 @@ module _ (b : List ℕ) (e : headerFault b ≡ Clear) (l : (n : ℕ) → byte b 
   whole-scans : (bytesPerScan b - 8) % groupOf (codeOf b) ≡ 0
   whole-scans =
       let g = scan-in-groups b e (multiplexed b e) 0 (first-type b e) .size in
-      let k : bytesPerScan b - 8 ≡ samplesOf b 0 / perOf (codeOf b) * groupOf (codeOf b) = omega (arith, g) in
+      let k : bytesPerScan b - 8 ≡ samplesOf b 0 / perOf (codeOf b) * groupOf (codeOf b) = rw (sizes b e .sum) (omega (arith, g)) in
       rw k (mul-mod-left (samplesOf b 0 / perOf (codeOf b)) (groupOf (codeOf b)))
 
   few-scans : blockScans b * 2 ^ blockExponent b ≤ 8355840

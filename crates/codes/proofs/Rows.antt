@@ -1,11 +1,11 @@
 -- What a test finds of every row of the table holds of the row of a code.
 -- Assumes nothing.
-use Prim.Native.Nat.{ℕ, suc, _+_}
+use Prim.Native.Nat.{ℕ, suc, _+_, _*_, _≤_, _<_}
 use mathlib.Core.Path.{_≡_, refl, subst}
-use mathlib.Core.Bool.{Bool, true, false, _&&_, _||_}
+use mathlib.Core.Bool.{Bool, true, false, not, _&&_, _||_}
 use mathlib.Core.List.{List, [], _∷_}
 use native.Mathlib.Omega.{arith}
-use lib.Dec.{T, eqb, leb, eqb→eq}
+use lib.Dec.{T, T-not, eqb, leb, ltb, eqb→eq, leb→le, ltb→lt}
 use lib.Ieee.Bits.{is-true}
 use mir.Facts.{and-yes}
 use borrow.Author.Tests.{leb-true, eqb-true}
@@ -15,15 +15,21 @@ use Rattle.basis.proofs.Tables.{every}
 use Rattle.codes.specs.declared.Row.{Row}
 use Rattle.codes.specs.declared.Found.{Found}
 use Rattle.codes.specs.declared.Found.the-variants.{At, Nothing}
-use Rattle.codes.specs.Codes.{findIn, table, rowOf, SoundRow, groupIn, groupOf, perIn, perOf, leadIn, leadOf, wordBytesIn, wordBytesOf, bitsOf, ofRow}
+use Rattle.codes.specs.Codes.{findIn, table, rowOf, SoundRow, groupIn, groupOf, perIn, perOf, leadIn, leadOf, wordBytesIn, wordBytesOf, bitsOf}
 
--- what the groups of a code are: none, a word of one, two or four bytes, or ten bytes of four samples
-pub data Groups (group per lead word bits : ℕ) : Type 0 where
-  none : group ≡ 0 → bits ≡ 0 → Groups group per lead word bits
-  one : group ≡ 1 → per ≡ 1 → lead ≡ 0 → word ≡ 1 → bits ≡ 8 → Groups group per lead word bits
-  two : group ≡ 2 → per ≡ 1 → lead ≡ 0 → word ≡ 2 → bits ≡ 16 → Groups group per lead word bits
-  four : group ≡ 4 → per ≡ 1 → lead ≡ 0 → word ≡ 4 → bits ≡ 32 → Groups group per lead word bits
-  ten : group ≡ 10 → per ≡ 4 → lead ≡ 2 → word ≡ 2 → bits ≡ 20 → Groups group per lead word bits
+-- the words of a group, whatever their width: one by itself, or four after their exponents
+pub data Words (group per lead word : ℕ) : Type 0 where
+  alone : group ≡ word → per ≡ 1 → lead ≡ 0 → word ≤ 4 → (word ≡ 3 → ⊥) → Words group per lead word
+  fours : group ≡ 10 → per ≡ 4 → lead ≡ 2 → word ≡ 2 → Words group per lead word
+
+-- a group is its exponents and its words, its bits are those of its samples, and a sample has those of a byte at least
+pub record Sized (group per lead word bits : ℕ) : Type 0 where
+  pub words : Words group per lead word
+  pub sum : group ≡ lead + per * word
+  pub bytes : 8 * group ≡ per * bits
+  pub some : 0 < per
+  pub wide : 0 < word
+  pub many : 8 ≤ bits
 
 never : {r : Row} → Nothing ≡ At r → ⊥
 never e = let z : _≡_ {A = ℕ} 0 1 = cc in omega arith
@@ -94,49 +100,64 @@ unfolding rowOf table
 fit code r e = sound-fit r (is-true (sound r) (holds sound table code r tt e))
 
 -- a row's groups, as one test
-abbrev five : ℕ → ℕ → ℕ → ℕ → ℕ → Row → Bool
-five a b c d e r = eqb (groupIn r) a && (eqb (perIn r) b && (eqb (leadIn r) c && (eqb (wordBytesIn r) d && eqb (r .width) e)))
+abbrev single : Row → Bool
+single r = eqb (groupIn r) (wordBytesIn r) && (eqb (perIn r) 1 && (eqb (leadIn r) 0 && (leb (wordBytesIn r) 4 && not (eqb (wordBytesIn r) 3))))
 
-abbrev kinds : Row → Bool
-kinds r = five 1 1 0 1 8 r || (five 2 1 0 2 16 r || (five 4 1 0 4 32 r || five 10 4 2 2 20 r))
+abbrev inFours : Row → Bool
+inFours r = eqb (groupIn r) 10 && (eqb (perIn r) 4 && (eqb (leadIn r) 2 && eqb (wordBytesIn r) 2))
 
-abbrev Of : Row → Type 0
-Of r = Groups (groupIn r) (perIn r) (leadIn r) (wordBytesIn r) (r .width)
+abbrev sizes : Row → Bool
+sizes r =
+    eqb (groupIn r) (leadIn r + perIn r * wordBytesIn r)
+    && (eqb (8 * groupIn r) (perIn r * r .width) && (ltb 0 (perIn r) && (ltb 0 (wordBytesIn r) && (leb 8 (r .width) && (single r || inFours r)))))
 
 split : {P : Type 0} (a b : Bool) → (T a → P) → (T b → P) → T (a || b) → P
 split true b f g t = f tt
 split false b f g t = g t
 
-parts : {P : Type 0} (a b c d e : ℕ) (r : Row) → (groupIn r ≡ a → perIn r ≡ b → leadIn r ≡ c → wordBytesIn r ≡ d → r .width ≡ e → P) → T (five a b c d e r) → P
-parts a b c d e r f t =
-    let x = and-yes (eqb (groupIn r) a) _ t in
-    let y = and-yes (eqb (perIn r) b) _ (x .1) in
-    let z = and-yes (eqb (leadIn r) c) _ (y .1) in
-    let w = and-yes (eqb (wordBytesIn r) d) _ (z .1) in
-    f (eqb→eq _ _ (x .0)) (eqb→eq _ _ (y .0)) (eqb→eq _ _ (z .0)) (eqb→eq _ _ (w .0)) (eqb→eq _ _ (w .1))
+one-word : (r : Row) → T (single r) → Words (groupIn r) (perIn r) (leadIn r) (wordBytesIn r)
+one-word r t =
+    let w = and-yes (eqb (groupIn r) (wordBytesIn r)) _ t in
+    let x = and-yes (eqb (perIn r) 1) _ (w .1) in
+    let y = and-yes (eqb (leadIn r) 0) _ (x .1) in
+    let z = and-yes (leb (wordBytesIn r) 4) _ (y .1) in
+    alone (eqb→eq _ _ (w .0)) (eqb→eq _ _ (x .0)) (eqb→eq _ _ (y .0)) (leb→le _ _ (z .0)) (λ e. T-not (eqb (wordBytesIn r) 3) (z .1) (rw e tt))
 
-told : (r : Row) → T (kinds r) → Of r
-told r =
-    split (five 1 1 0 1 8 r) _ (parts 1 1 0 1 8 r one)
-    (split (five 2 1 0 2 16 r) _ (parts 2 1 0 2 16 r two)
-    (split (five 4 1 0 4 32 r) _ (parts 4 1 0 4 32 r four) (parts 10 4 2 2 20 r ten)))
+four-words : (r : Row) → T (inFours r) → Words (groupIn r) (perIn r) (leadIn r) (wordBytesIn r)
+four-words r t =
+    let x = and-yes (eqb (groupIn r) 10) _ t in
+    let y = and-yes (eqb (perIn r) 4) _ (x .1) in
+    let z = and-yes (eqb (leadIn r) 2) _ (y .1) in
+    fours (eqb→eq _ _ (x .0)) (eqb→eq _ _ (y .0)) (eqb→eq _ _ (z .0)) (eqb→eq _ _ (z .1))
 
-pub row-groups : (code : ℕ) (r : Row) → rowOf code ≡ At r → Of r
-unfolding rowOf findIn table groupIn perIn leadIn wordBytesIn pick
-row-groups code r e = told r (holds kinds table code r tt e)
+sized-in : (r : Row) → T (sizes r) → Sized (groupIn r) (perIn r) (leadIn r) (wordBytesIn r) (r .width)
+sized-in r t =
+    let v = and-yes (eqb (groupIn r) (leadIn r + perIn r * wordBytesIn r)) _ t in
+    let w = and-yes (eqb (8 * groupIn r) (perIn r * r .width)) _ (v .1) in
+    let x = and-yes (ltb 0 (perIn r)) _ (w .1) in
+    let y = and-yes (ltb 0 (wordBytesIn r)) _ (x .1) in
+    let z = and-yes (leb 8 (r .width)) _ (y .1) in
+    record {
+      words = split (single r) (inFours r) (one-word r) (four-words r) (z .1);
+      sum = eqb→eq _ _ (v .0);
+      bytes = eqb→eq _ _ (w .0);
+      some = ltb→lt _ _ (x .0);
+      wide = ltb→lt _ _ (y .0);
+      many = leb→le _ _ (z .0);
+    }
 
-pub groups : (code : ℕ) → Groups (groupOf code) (perOf code) (leadOf code) (wordBytesOf code) (bitsOf code)
-unfolding groupOf perOf leadOf wordBytesOf bitsOf
-groups code = go (rowOf code) refl
-  where
-    go : (f : Found) → rowOf code ≡ f → Groups (ofRow groupIn f) (ofRow perIn f) (ofRow leadIn f) (ofRow wordBytesIn f) (ofRow (λ (r : Row). r .width) f)
-    go Nothing e = none refl refl
-    go (At r) e = row-groups code r e
-
-pub group-row : (code : ℕ) (r : Row) → rowOf code ≡ At r → groupOf code ≡ groupIn r
-unfolding groupOf
-group-row code r e = rw e
+pub sized : (code : ℕ) (r : Row) → rowOf code ≡ At r → Sized (groupOf code) (perOf code) (leadOf code) (wordBytesOf code) (bitsOf code)
+unfolding rowOf findIn table groupIn perIn leadIn wordBytesIn pick groupOf perOf leadOf wordBytesOf bitsOf
+sized code r e = rw e (sized-in r (holds sizes table code r tt e))
 
 pub group-none : (code : ℕ) → rowOf code ≡ Nothing → groupOf code ≡ 0
 unfolding groupOf
 group-none code e = rw e
+
+-- a code whose groups have some bytes has a row
+pub some-sized : (code : ℕ) → 0 < groupOf code → Sized (groupOf code) (perOf code) (leadOf code) (wordBytesOf code) (bitsOf code)
+some-sized code h = go (rowOf code) refl
+  where
+    go : (f : Found) → rowOf code ≡ f → Sized (groupOf code) (perOf code) (leadOf code) (wordBytesOf code) (bitsOf code)
+    go Nothing e = absurd (omega (arith, h, group-none code e))
+    go (At r) e = sized code r e

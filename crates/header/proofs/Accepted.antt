@@ -14,8 +14,8 @@ use Rattle.basis.proofs.Choices.{and-true}
 use Rattle.refusals.specs.declared.Fault.the-variants.{Clear}
 use Rattle.refusals.specs.declared.Refusal.the-variants.{Size, Skew}
 use Rattle.refusals.proofs.Clears.{both-clear, when-clear, each-clear}
-use Rattle.codes.specs.Codes.{groupOf, perOf, bitsOf}
-use Rattle.codes.proofs.Rows.{groups}
+use Rattle.codes.specs.Codes.{groupOf, perOf, leadOf, wordBytesOf, bitsOf}
+use Rattle.codes.proofs.Rows.{Sized, sized}
 use Rattle.general.specs.General.{codeOf, bytesPerScan, intervalOf, scanTypes, channelSets, skewFields, extendedFields, externalFields, within, fieldsBefore, headerLength, generalFault}
 use Rattle.general.proofs.Kept.{General, Step, general-kept, general-multiplexed, within-is, or-true}
 use Rattle.sets.specs.Descriptors.{descriptorPlace, setFault, descriptorsFault}
@@ -23,7 +23,7 @@ use Rattle.sets.specs.Samples.{channelsOf, subscansOf, samplesOf}
 use Rattle.sets.proofs.Kept.{each-kept, subscans-few, channels-by-four, samples-by-four}
 use Rattle.header.specs.Faults.{sizeHolds, sizeFault, sizesFault, skewHolds, headerFault}
 use Rattle.header.specs.Answers.{isSet}
-use Rattle.header.proofs.Sizes.{cancel, bits-some, samples-below, Grouped, grouped}
+use Rattle.header.proofs.Sizes.{cancel, samples-below, Grouped, whole-groups, grouped}
 
 -- each rule of the table
 pub record Accepted (b : List ℕ) : Type 0 where
@@ -65,8 +65,9 @@ pub size-is : (b : List ℕ) → headerFault b ≡ Clear → codeOf b < 0x8000 �
 unfolding sizeHolds
 size-is b e m t h = eqb-true _ _ (accepted b e .sizes t h)
 
-bits-many : (b : List ℕ) → headerFault b ≡ Clear → 8 ≤ bitsOf (codeOf b)
-bits-many b e = let k = accepted b e .general .known in bits-some (codeOf b) (k .row) (k .found)
+-- the groups of its code
+pub sizes : (b : List ℕ) → headerFault b ≡ Clear → Sized (groupOf (codeOf b)) (perOf (codeOf b)) (leadOf (codeOf b)) (wordBytesOf (codeOf b)) (bitsOf (codeOf b))
+sizes b e = let k = accepted b e .general .known in sized (codeOf b) (k .row) (k .found)
 
 pub first-type : (b : List ℕ) → headerFault b ≡ Clear → 0 < scanTypes b
 first-type b e = omega (arith, types-few b e .0)
@@ -74,16 +75,16 @@ first-type b e = omega (arith, types-few b e .0)
 -- every scan type has the same S/S
 pub same-samples : (b : List ℕ) → headerFault b ≡ Clear → (t : ℕ) → t < scanTypes b → samplesOf b t ≡ samplesOf b 0
 same-samples b e t h =
-    cancel (samplesOf b t) (samplesOf b 0) (bitsOf (codeOf b)) (omega (arith, bits-many b e))
+    cancel (samplesOf b t) (samplesOf b 0) (bitsOf (codeOf b)) (omega (arith, sizes b e .many))
     (omega (arith, size-is b e (multiplexed b e) t h, size-is b e (multiplexed b e) 0 (first-type b e)))
 
 pub samples-few : (b : List ℕ) → headerFault b ≡ Clear → codeOf b < 0x8000 → (t : ℕ) → t < scanTypes b → samplesOf b t ≤ 999991
 samples-few b e m t h =
-    omega (arith, samples-below (bytesPerScan b) (samplesOf b t) (bitsOf (codeOf b)) (bits-many b e) (size-is b e m t h), accepted b e .general .scan .1)
+    omega (arith, samples-below (bytesPerScan b) (samplesOf b t) (bitsOf (codeOf b)) (sizes b e .many) (size-is b e m t h), accepted b e .general .scan .1)
 
 pub scan-is : (b : List ℕ) → headerFault b ≡ Clear → codeOf b < 0x8000 → (8 ≤ bytesPerScan b) × (bytesPerScan b ≤ 999999)
 scan-is b e m = (
-  omega (arith, samples-below (bytesPerScan b) (samplesOf b 0) (bitsOf (codeOf b)) (bits-many b e) (size-is b e m 0 (first-type b e))),
+  omega (arith, samples-below (bytesPerScan b) (samplesOf b 0) (bitsOf (codeOf b)) (sizes b e .many) (size-is b e m 0 (first-type b e))),
   accepted b e .general .scan .1,
 )
 
@@ -99,9 +100,9 @@ unfolding samplesOf
 samples-in-four b e p t h = samples-by-four b t (channelSets b) (λ s g. channels-in-four b e p t s h g)
 
 -- E2, in groups: S/S is whole groups, and B is 8 and their bytes
-pub scan-in-groups : (b : List ℕ) → headerFault b ≡ Clear → codeOf b < 0x8000 → (t : ℕ) → t < scanTypes b → Grouped (bytesPerScan b) (samplesOf b t) (groupOf (codeOf b)) (perOf (codeOf b))
+pub scan-in-groups : (b : List ℕ) → headerFault b ≡ Clear → codeOf b < 0x8000 → (t : ℕ) → t < scanTypes b → Grouped (bytesPerScan b) (samplesOf b t) (perOf (codeOf b)) (leadOf (codeOf b)) (wordBytesOf (codeOf b))
 scan-in-groups b e m t h =
-    grouped (bytesPerScan b) (samplesOf b t) (groups (codeOf b)) (omega (arith, bits-many b e)) (size-is b e m t h) (λ p. samples-in-four b e p t h)
+    grouped (bytesPerScan b) (samplesOf b t) (sizes b e) (size-is b e m t h) (whole-groups (samplesOf b t) (sizes b e .words) (λ p. samples-in-four b e p t h))
 
 -- ---- parts of the block
 pub length-is : (b : List ℕ) → headerFault b ≡ Clear → length b ≡ headerLength b

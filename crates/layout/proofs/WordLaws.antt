@@ -1,61 +1,59 @@
--- The words of a scan, for every code: each has its own bytes, and they lie within the scan.
+-- The words of a scan, whatever a group has before them, however many and of whatever size: each has its own bytes, and they lie within the scan.
 -- Assumes nothing.
-use Prim.Native.Nat.{ℕ, _+_, _*_, _-_, _/_, _%_, _≤_, _<_}
-use mathlib.Core.Path.{_≡_}
+use Prim.Native.Nat.{ℕ, zero, suc, _+_, _*_, _-_, _/_, _%_, _≤_, _<_}
+use mathlib.Core.Path.{_≡_, ap}
 use mathlib.Core.List.{List}
+use mathlib.Core.Logic.{⊎-elim}
+use native.Mathlib.Nat.{eq-or-lt-of-le, div-add-mod', mod-lt, mul-le-mul-right, suc-mul, le-div-iff-mul-le, div-mul-le-self, div-lt-iff-lt-mul}
 use native.Mathlib.Omega.{arith}
+use Rattle.basis.proofs.Digits.{Next, along, wrap, next}
 use Rattle.refusals.specs.declared.Fault.the-variants.{Clear}
-use Rattle.codes.specs.Codes.{perOf, leadOf, wordBytesOf, bitsOf}
-use Rattle.codes.proofs.Rows.{groups, Groups, none, one, two, four, ten}
+use Rattle.codes.specs.Codes.{perOf, leadOf, wordBytesOf}
 use Rattle.general.specs.General.{codeOf, bytesPerScan, scanTypes}
 use Rattle.sets.specs.Samples.{samplesOf}
 use Rattle.header.specs.Faults.{headerFault}
-use Rattle.header.proofs.Sizes.{bits-some}
-use Rattle.header.proofs.Accepted.{accepted, multiplexed, scan-in-groups}
-use Rattle.layout.specs.Places.{wordPlace}
+use Rattle.header.proofs.Accepted.{sizes, multiplexed, scan-in-groups}
+use Rattle.layout.specs.Places.{groupBytes, wordPlace}
 
--- one word after another
-apart : {group per lead word bits : ℕ} → Groups group per lead word bits → 0 < bits → (j k : ℕ) → j < k → wordPlace per lead word j + word ≤ wordPlace per lead word k
-apart (none g b) h j k l = absurd (omega arith)
-apart (one g p e w b) h j k l = rw (p, e, w) (omega arith)
-apart (two g p e w b) h j k l = rw (p, e, w) (omega arith)
-apart (four g p e w b) h j k l = rw (p, e, w) (omega arith)
-apart (ten g p e w b) h j k l = rw (p, e, w) (omega arith)
+module _ (per lead word : ℕ) (some : 0 < per) where
+  -- word r of group a ends before the groups after it
+  ends : (a r b : ℕ) → r < per → a < b → 8 + a * groupBytes per lead word + (lead + r * word) + word ≤ 8 + b * groupBytes per lead word
+  ends a r b h l = omega (arith, mul-le-mul-right word h, suc-mul r word, mul-le-mul-right (groupBytes per lead word) l, suc-mul a (groupBytes per lead word))
 
--- and the last one ends with the scan's groups
-inside : {group per lead word bits : ℕ} → Groups group per lead word bits → 0 < bits → (n k : ℕ) → n % per ≡ 0 → k < n → wordPlace per lead word k + word ≤ 8 + n / per * group
-inside (none g b) h n k z l = absurd (omega arith)
-inside (one g p e w b) h n k z l = rw (g, p, e, w) (omega arith)
-inside (two g p e w b) h n k z l = rw (g, p, e, w) (omega arith)
-inside (four g p e w b) h n k z l = rw (g, p, e, w) (omega arith)
-inside (ten g p e w b) h n k z l = let y : n % 4 ≡ 0 = rw p at z in rw (g, p, e, w) (omega arith)
+  -- one word after another
+  apart : (j k : ℕ) → j < k → wordPlace per lead word j + word ≤ wordPlace per lead word k
+  apart j k l =
+      ⊎-elim
+      (λ (e : j / per ≡ k / per).
+      let r : j % per < k % per = omega (arith, div-add-mod' j per, div-add-mod' k per, ap (λ (a : ℕ). a * per) e) in
+      omega (arith, mul-le-mul-right word r, suc-mul (j % per) word, ap (λ (a : ℕ). a * groupBytes per lead word) e))
+      (λ h. omega (arith, ends (j / per) (j % per) (k / per) (mod-lt j some) h))
+      (eq-or-lt-of-le (le-div-iff-mul-le some .1 (omega (arith, div-mul-le-self j per))))
 
--- which the words and their exponents fill
-fills : {group per lead word bits : ℕ} → Groups group per lead word bits → 0 < bits → (n : ℕ) → n % per ≡ 0 → 0 < n → wordPlace per lead word (n - 1) + word ≡ 8 + n / per * group
-fills (none g b) h n z l = absurd (omega arith)
-fills (one g p e w b) h n z l = rw (g, p, e, w) (omega arith)
-fills (two g p e w b) h n z l = rw (g, p, e, w) (omega arith)
-fills (four g p e w b) h n z l = rw (g, p, e, w) (omega arith)
-fills (ten g p e w b) h n z l = let y : n % 4 ≡ 0 = rw p at z in rw (g, p, e, w) (omega arith)
+  -- and the last one ends with the scan's groups,
+  inside : (n k : ℕ) → n % per ≡ 0 → k < n → wordPlace per lead word k + word ≤ 8 + n / per * groupBytes per lead word
+  inside n k z l = ends (k / per) (k % per) (n / per) (mod-lt k some) (div-lt-iff-lt-mul some .1 (omega (arith, z, div-add-mod' n per)))
+
+  -- which the words and their exponents fill
+  fills : (n : ℕ) → n % per ≡ 0 → 0 < n → wordPlace per lead word (n - 1) + word ≡ 8 + n / per * groupBytes per lead word
+  fills zero z l = absurd (omega arith)
+  fills (suc n) z l = let p : suc n - 1 ≡ n = omega arith in rw p (go (next per n some))
+    where
+      go : Next per n → wordPlace per lead word n + word ≡ 8 + suc n / per * groupBytes per lead word
+      go (along d m u) = absurd (omega (arith, z, m))
+      go (wrap d m u) = rw d (omega (arith, suc-mul (n / per) (groupBytes per lead word), ap (λ (a : ℕ). a * word) u, suc-mul (n % per) word))
 
 module _ (b : List ℕ) (e : headerFault b ≡ Clear) where
-  bits : 0 < bitsOf (codeOf b)
-  bits = let k = accepted b e .general .known in omega (arith, bits-some (codeOf b) (k .row) (k .found))
-
   -- the place of sample k's word
   abbrev pub word : ℕ → ℕ
   word k = wordPlace (perOf (codeOf b)) (leadOf (codeOf b)) (wordBytesOf (codeOf b)) k
 
   pub words-apart : (j k : ℕ) → j < k → word j + wordBytesOf (codeOf b) ≤ word k
-  words-apart j k l = apart (groups (codeOf b)) bits j k l
+  words-apart = apart _ _ _ (sizes b e .some)
 
   pub word-inside : (t : ℕ) → t < scanTypes b → (k : ℕ) → k < samplesOf b t → word k + wordBytesOf (codeOf b) ≤ bytesPerScan b
-  word-inside t h k l =
-      let g = scan-in-groups b e (multiplexed b e) t h in
-      rw (g .size) (inside (groups (codeOf b)) bits (samplesOf b t) k (g .whole) l)
+  word-inside t h k l = let g = scan-in-groups b e (multiplexed b e) t h in rw (g .size) (inside _ _ _ (sizes b e .some) (samplesOf b t) k (g .whole) l)
 
   -- the last word ends with the scan
   pub words-fill : (t : ℕ) → t < scanTypes b → 0 < samplesOf b t → word (samplesOf b t - 1) + wordBytesOf (codeOf b) ≡ bytesPerScan b
-  words-fill t h l =
-      let g = scan-in-groups b e (multiplexed b e) t h in
-      rw (g .size) (fills (groups (codeOf b)) bits (samplesOf b t) (g .whole) l)
+  words-fill t h l = let g = scan-in-groups b e (multiplexed b e) t h in rw (g .size) (fills _ _ _ (sizes b e .some) (samplesOf b t) (g .whole) l)

@@ -1,12 +1,13 @@
 -- The groups of a code's words.
 -- Assumes nothing.
-use Prim.Native.Nat.{ℕ, _≤_, _<_}
-use mathlib.Core.Path.{_≡_}
+use Prim.Native.Nat.{ℕ, zero, suc, _≤_, _<_}
+use mathlib.Core.Path.{_≡_, refl}
+use native.Mathlib.Nat.{mul-le-mul-right}
 use native.Mathlib.Omega.{arith}
 use Rattle.codes.specs.declared.Row.{Row}
 use Rattle.codes.specs.declared.Found.the-variants.{At}
-use Rattle.codes.specs.Codes.{rowOf, groupOf, perOf, leadOf, wordBytesOf, bitsOf, groupIn, perIn, leadIn, wordBytesIn}
-use Rattle.codes.proofs.Rows.{groups, group-row, row-groups, fit, Groups, none, one, two, four, ten}
+use Rattle.codes.specs.Codes.{rowOf, groupOf, perOf, leadOf, wordBytesOf}
+use Rattle.codes.proofs.Rows.{Words, alone, fours, sized, some-sized}
 use Rattle.scan.specs.declared.State.{State}
 use Rattle.scan.specs.Fit.{Fit}
 use Rattle.scan.proofs.Shapes.{shape-parts}
@@ -15,64 +16,48 @@ use Rattle.stream.specs.Bulk as Bulk
 
 -- a word that stands alone has one, two or four bytes
 pub group-plain : (code : ℕ) → 0 < groupOf code → (groupOf code ≡ 10 → ⊥) → (0 < groupOf code) × (groupOf code ≤ 4) × (groupOf code ≡ 3 → ⊥)
-group-plain code p h = go (groups code)
+group-plain code p h = go (some-sized code p .words)
   where
-    go : Groups (groupOf code) (perOf code) (leadOf code) (wordBytesOf code) (bitsOf code) → (0 < groupOf code) × (groupOf code ≤ 4) × (groupOf code ≡ 3 → ⊥)
-    go (none e f) = absurd (omega arith)
-    go (one e f g i j) = (omega arith, omega arith, λ x. omega arith)
-    go (two e f g i j) = (omega arith, omega arith, λ x. omega arith)
-    go (four e f g i j) = (omega arith, omega arith, λ x. omega arith)
-    go (ten e f g i j) = absurd (h e)
+    go : Words (groupOf code) (perOf code) (leadOf code) (wordBytesOf code) → (0 < groupOf code) × (groupOf code ≤ 4) × (groupOf code ≡ 3 → ⊥)
+    go (alone e f g i j) = (p, omega (arith, e, i), λ x. j (omega (arith, e, x)))
+    go (fours e f g i) = absurd (h e)
 
 -- the samples of a group: four of ten bytes, else one
 pub per-four : (code : ℕ) → groupOf code ≡ 10 → perOf code ≡ 4
-per-four code h = go (groups code)
+per-four code h = go (some-sized code (omega (arith, h)) .words)
   where
-    go : Groups (groupOf code) (perOf code) (leadOf code) (wordBytesOf code) (bitsOf code) → perOf code ≡ 4
-    go (none e f) = absurd (omega arith)
-    go (one e f g i j) = absurd (omega arith)
-    go (two e f g i j) = absurd (omega arith)
-    go (four e f g i j) = absurd (omega arith)
-    go (ten e f g i j) = f
+    go : Words (groupOf code) (perOf code) (leadOf code) (wordBytesOf code) → perOf code ≡ 4
+    go (alone e f g i j) = absurd (omega (arith, h, e, i))
+    go (fours e f g i) = f
 
 pub per-one : (code : ℕ) → 0 < groupOf code → (groupOf code ≡ 10 → ⊥) → perOf code ≡ 1
-per-one code p h = go (groups code)
+per-one code p h = go (some-sized code p .words)
   where
-    go : Groups (groupOf code) (perOf code) (leadOf code) (wordBytesOf code) (bitsOf code) → perOf code ≡ 1
-    go (none e f) = absurd (omega arith)
-    go (one e f g i j) = f
-    go (two e f g i j) = f
-    go (four e f g i j) = f
-    go (ten e f g i j) = absurd (h e)
-
--- no row is without bits
-thin : (code : ℕ) (r : Row) → rowOf code ≡ At r → r .width ≡ 0 → ⊥
-thin code r e z = let f = fit code r e .whole in omega arith
+    go : Words (groupOf code) (perOf code) (leadOf code) (wordBytesOf code) → perOf code ≡ 1
+    go (alone e f g i j) = f
+    go (fours e f g i) = absurd (h e)
 
 -- a code with a row has groups of some bytes
 pub row-some : (code : ℕ) (r : Row) → rowOf code ≡ At r → 0 < groupOf code
-row-some code r e = rw (group-row code r e) (go (row-groups code r e))
-  where
-    go : Groups (groupIn r) (perIn r) (leadIn r) (wordBytesIn r) (r .width) → 0 < groupIn r
-    go (none x y) = absurd (thin code r e y)
-    go (one x f g i j) = omega arith
-    go (two x f g i j) = omega arith
-    go (four x f g i j) = omega arith
-    go (ten x f g i j) = omega arith
+row-some code r e = let s = sized code r e in omega (arith, s .sum, s .wide, mul-le-mul-right (wordBytesOf code) (s .some))
 
 -- the groups of a state that fits
 pub fit-width : (s : State) (w : ℕ) → Fit s → groupOf (s .shape .code) ≡ w → GroupBytes w
-fit-width s w f e = rw (← e) (go (groups (s .shape .code)))
+fit-width s w f e = rw (← e) (go (some-sized (s .shape .code) some .words))
   where
     some : 0 < groupOf (s .shape .code)
     some = shape-parts (s .shape) (f .shape) .group
 
-    go : Groups (groupOf (s .shape .code)) (perOf (s .shape .code)) (leadOf (s .shape .code)) (wordBytesOf (s .shape .code)) (bitsOf (s .shape .code)) → GroupBytes (groupOf (s .shape .code))
-    go (none x y) = absurd (omega (arith, some))
-    go (one x h g i j) = Bulk.one x
-    go (two x h g i j) = Bulk.two x
-    go (four x h g i j) = Bulk.four x
-    go (ten x h g i j) = Bulk.ten x
+    short : (n : ℕ) → 0 < n → n ≤ 4 → (n ≡ 3 → ⊥) → GroupBytes n
+    short zero h l t = absurd (omega arith)
+    short (suc zero) h l t = Bulk.one refl
+    short (suc (suc zero)) h l t = Bulk.two refl
+    short (suc (suc (suc zero))) h l t = absurd (t refl)
+    short (suc (suc (suc (suc n)))) h l t = Bulk.four (omega arith)
+
+    go : Words (groupOf (s .shape .code)) (perOf (s .shape .code)) (leadOf (s .shape .code)) (wordBytesOf (s .shape .code)) → GroupBytes (groupOf (s .shape .code))
+    go (alone x h g i j) = short (groupOf (s .shape .code)) some (omega (arith, x, i)) (λ t. j (omega (arith, x, t)))
+    go (fours x h g i) = Bulk.ten x
 
 pub width-some : (w : ℕ) → GroupBytes w → 0 < w
 width-some w (Bulk.one e) = omega arith
