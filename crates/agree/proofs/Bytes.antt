@@ -9,7 +9,7 @@ use lib.ListN.{length, getD}
 use Rattle.basis.specs.Choice.{pick}
 use Rattle.basis.specs.Upto.{upto, listUpto}
 use Rattle.rules.specs.Tape.{Body, ends, blockOf, bytesOf, byteAt}
-use Rattle.rules.specs.Cuts.{Piece, portion, before, spelled}
+use Rattle.agree.specs.Cuts.{Piece, portion, before, spelled}
 use Rattle.agree.specs.Calls.{Call, put, end, Bytes, BytesIn, taken, bodyOf}
 
 append : (a b : List ℕ) → Bytes a → Bytes b → Bytes (a ++ b)

@@ -1,3 +1,4 @@
+pub mod Cuts
 pub mod Plans
 pub mod Tests
 pub mod Form

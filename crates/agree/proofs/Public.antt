@@ -25,10 +25,11 @@ use Rattle.stream.specs.declared.Gave.{Gave}
 use Rattle.stream.specs.declared.Answer.the-variants as A
 use Rattle.stream.specs.Calls as K
 use Rattle.body.specs.Ends as N
-use Rattle.rules.specs.Cuts.{portion, blockEnd}
-use Rattle.rules.proofs.Machine.{Run, pieces}
+use Rattle.rules.proofs.Machine.{Run}
+use Rattle.agree.specs.Cuts.{portion, blockEnd}
 use Rattle.agree.specs.Calls.{Call, put, end, Reading, readOn, taken}
 use Rattle.agree.specs.Answers.{answerFrom, roomAnswer}
+use Rattle.agree.proofs.Cuts.{pieces}
 use Rattle.agree.proofs.Whole.{stepOf, emitOf, endOf, dueIn, ended-due, ended-wrong, stopped-end, stopIn, feed-after}
 
 -- ---- what each call comes to

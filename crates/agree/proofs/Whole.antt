@@ -35,15 +35,16 @@ use Rattle.body.specs.Ends as N
 use Rattle.body.specs.Open as O
 use Rattle.body.specs.declared.Closing as B
 use Rattle.rules.specs.Tape.{Body, ends, startOf, size, byteAt}
-use Rattle.rules.specs.Cuts.{Piece, spelled}
 use Rattle.rules.specs.Scans.{Shape}
 use Rattle.rules.specs.Faults.{byteFault, endFault}
 use Rattle.rules.specs.Outcome.{Report, Closing, refused, report, answered, stopPlace, stopOf, numbersOf, reportOf, closing, lastType, firstItb, firstWindow}
 use Rattle.refusals.proofs.Clears.{clear-at}
 use Rattle.rules.proofs.Tapes.{size-last}
 use Rattle.rules.proofs.Laws.{Halts, long, block, sync, timing, phase, halts-at, byte-halts, end-halts, stop-halts}
-use Rattle.rules.proofs.Machine.{Run, Still, Follows, feed, pieces, uncut, pieces-uncut, Ran, went, fell, ran-all}
+use Rattle.rules.proofs.Machine.{Run, Still, Follows, feed, uncut, Ran, went, fell, ran-all}
+use Rattle.agree.specs.Cuts.{Piece, spelled}
 use Rattle.agree.specs.Answers.{itbGiven, windowGiven, closedOf}
+use Rattle.agree.proofs.Cuts.{pieces, pieces-uncut}
 use Rattle.agree.proofs.Plans.{Plan, group, scan, samples, shapeIn, Sizes, wide, none-yet, before-is}
 use Rattle.agree.proofs.Form.{headOf, itbs, twis, wins, form, exps, Begun, sole, many, Inv}
 use Rattle.agree.proofs.Steps.{outAt, haltAt, Hop, on, off, step-hop}

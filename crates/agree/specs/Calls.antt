@@ -6,11 +6,11 @@ use lib.IntN.{ℤ}
 use lib.ListN.{length}
 use Rattle.basis.specs.Choice.{pick}
 use Rattle.rules.specs.Tape.{Body}
-use Rattle.rules.specs.Cuts.{Piece, portion, blockEnd, spelled}
 use Rattle.scan.specs.declared.State.{State}
 use Rattle.stream.specs.Calls as K
 use Rattle.body.specs.Ends as N
 use Rattle.body.specs.Open as O
+use Rattle.agree.specs.Cuts.{Piece, portion, blockEnd, spelled}
 
 -- a portion, with the length of the output that is lent for it; or a block end
 pub data Call : Type 0 where

@@ -11,6 +11,7 @@ use Rattle.body.specs.declared.Opened.{Opened}
 use Rattle.stream.specs.declared.Answer.{Answer}
 use Rattle.stream.specs.declared.Answer.the-variants.{GoingOn, Stopped, Refused}
 use Rattle.stream.specs.declared.Gave.{Gave}
+use Rattle.stream.specs.Calls.{samplesTold}
 use Rattle.body.specs.declared.Itb.{Itb}
 use Rattle.body.specs.declared.Itb.the-variants as itb
 use Rattle.body.specs.declared.Window.{Window}
@@ -43,12 +44,6 @@ abbrev pub answerFault : Answer → Fault
 answerFault (GoingOn n) = Clear
 answerFault (Stopped n r) = At r
 answerFault (Refused r) = At r
-
--- the samples written
-abbrev pub samplesTold : Answer → ℕ
-samplesTold (GoingOn n) = n
-samplesTold (Stopped n r) = n
-samplesTold (Refused r) = 0
 
 -- a portion or block end, with its state
 abbrev pub flatGave : Gave → SegdGave

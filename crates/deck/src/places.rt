@@ -4,7 +4,7 @@ ghost use Prim.Native.Nat.{_*_};
 ghost use Rattle.general.specs.General.{extendedFields, externalFields};
 ghost use Rattle.header.specs.Faults.{headerFault};
 ghost use Rattle.layout.specs.Indexes.{indexAnswer, placeAnswer};
-ghost use Rattle.parts.specs.Parts.{extendedPlace, externalPlace};
+ghost use Rattle.parts.specs.Parts.{constantsPlace, constantsLength, extendedPlace, externalPlace};
 ghost use Rattle.skew.specs.Skews.{skewFault, skewAnswer};
 ghost use Rattle.skew.specs.Times.{timeAnswer};
 ghost use Rattle.deck.specs.Places.{flatIndex, flatPlace, flatPart, flatSkew, flatByte, flatTime};
@@ -110,7 +110,7 @@ fn part(fault: Fault, offset: usize, length: usize) -> SegdPart
 
 #[no_mangle]
 pub extern "C" fn segd_constants(block: &[u8]) -> SegdPart
-    ensures { λ r. ⌜ r ≡ flatPart (headerFault (now (block .entry))) 4 6 ⌝ }
+    ensures { λ r. ⌜ r ≡ flatPart (headerFault (now (block .entry))) constantsPlace constantsLength ⌝ }
 {
     part(header::header_fault(block), 4, 6)
 }

@@ -18,9 +18,8 @@ use Rattle.scan.specs.declared.Stepped.{Stepped}
 use Rattle.scan.specs.Fit.{fitb}
 use Rattle.scan.specs.Step.{after, wrote, step, mAndX}
 use Rattle.stream.specs.declared.Answer.{Answer}
-use Rattle.stream.specs.Calls.{portion, fitPortion, fed, unchanged, portionWrote, fitWrote, answered, lacksRoom}
+use Rattle.stream.specs.Calls.{portion, fitPortion, fed, unchanged, portionWrote, fitWrote, answered, samplesTold, lacksRoom}
 use Rattle.stream.proofs.Cuts.{cut-state, cut-wrote}
-use Rattle.deck.specs.Bodies.{samplesTold}
 use Rattle.demands.specs.Demand3.{TwoAreOne, Output}
 
 -- ---- two portions are one, of every state: an unfit one stays as it is

@@ -14,7 +14,7 @@ use Rattle.header.specs.Faults.{headerFault}
 use Rattle.header.specs.Answers.{headerAnswer, descriptorAnswer}
 use Rattle.layout.specs.Indexes.{indexAnswer, placeAnswer}
 use Rattle.parts.specs.Slices.{Slice, slice}
-use Rattle.parts.specs.Parts.{extendedPlace, externalPlace, constantsPart, extendedPart, externalPart}
+use Rattle.parts.specs.Parts.{constantsPlace, constantsLength, extendedPlace, externalPlace, constantsPart, extendedPart, externalPart}
 use Rattle.skew.specs.Skews.{skewFault, skewPart, skewAnswer}
 use Rattle.skew.specs.Times.{timeAnswer}
 use Rattle.body.specs.Open.{opened}
@@ -137,7 +137,7 @@ pub record Bound : Type 0 where
   pub segd-descriptor : Is deck-segd-descriptor.Post (λ κ a. flatSet (descriptorAnswer (first a .now) (second a) (third a)))
   pub segd-sample-index : Is deck-segd-sample-index.Post (λ κ a. flatIndex (indexAnswer (first a .now) (second a) (third a) (fourth a) (fifth a)))
   pub segd-sample-place : Is deck-segd-sample-place.Post (λ κ a. flatPlace (placeAnswer (first a .now) (second a) (third a)))
-  pub segd-constants : Is deck-segd-constants.Post (λ κ a. flatPart (headerFault (first a .now)) 4 6)
+  pub segd-constants : Is deck-segd-constants.Post (λ κ a. flatPart (headerFault (first a .now)) constantsPlace constantsLength)
   pub segd-extended : Is deck-segd-extended.Post
       (λ κ a. flatPart (headerFault (first a .now)) (extendedPlace (first a .now)) (32 * extendedFields (first a .now)))
   pub segd-external : Is deck-segd-external.Post

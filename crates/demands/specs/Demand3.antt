@@ -10,7 +10,6 @@ use Rattle.basis.specs.Digits.{written}
 use Rattle.codes.specs.Codes.{leadOf, wordBytesOf}
 use Rattle.scan.specs.declared.State.{State}
 use Rattle.runs.specs.Runs.{over}
-use Rattle.deck.specs.Bodies.{samplesTold}
 use Rattle.stream.specs.Calls as calls
 use Rattle.rules.specs.Tape.{Body, byteAt}
 use Rattle.rules.specs.Scans.{Shape}
@@ -32,7 +31,7 @@ pub record TwoAreOne (s : State) (a b : List ℕ) (m n k : ℕ) : Type 0 where
 
 -- how many numbers those samples are, M and X each; and the caller's output after the portion
 abbrev numbersTold : State → List ℕ → List ℤ → ℕ
-numbersTold s bs out = 2 * samplesTold (calls.portion s bs (length out) .answer)
+numbersTold s bs out = 2 * calls.samplesTold (calls.portion s bs (length out) .answer)
 
 abbrev pub outputOf : State → List ℕ → List ℤ → List ℤ
 outputOf s bs out = over (calls.portionWrote s bs (length out)) out

@@ -22,9 +22,15 @@ extendedPlace b = descriptorPlace b (scanTypes b) 0
 unfoldable pub externalPlace : List ℕ → ℕ
 externalPlace b = extendedPlace b + 32 * extendedFields b
 
--- "5-10 constants, unchecked bytes"
+-- "5-10 constants, unchecked bytes": the bytes before them, and how many they are
+abbrev pub constantsPlace : ℕ
+constantsPlace = 4
+
+abbrev pub constantsLength : ℕ
+constantsLength = 6
+
 unfoldable pub constantsPart : Slice → Slice
-constantsPart block = partAfter (headerFault (block .bytes)) block (part block 4 6)
+constantsPart block = partAfter (headerFault (block .bytes)) block (part block constantsPlace constantsLength)
 
 -- EC and EX fields of 32 bytes
 unfoldable pub extendedPart : Slice → Slice

@@ -1,5 +1,5 @@
 -- Any machine that takes bytes and block ends one at a time, whose state after p bytes and i block ends has a closed form as long as the rules
--- find no fault, and which halts where they find one: whatever the rules and the cuts, its run is what the rules say of the body that the pieces spell.
+-- find no fault, and which halts where they find one: whatever the rules, its run over a body is what they say of it.
 -- Assumes nothing.
 use Prim.Native.Nat.{ℕ, suc, _+_, _≤_, _<_}
 use mathlib.Core.Path.{_≡_, refl, sym, ap, ap₂, _∙_, subst}
@@ -15,7 +15,6 @@ use Rattle.refusals.specs.declared.Fault.{Fault}
 use Rattle.refusals.specs.declared.Fault.the-variants.{Clear, At}
 use Rattle.refusals.specs.Order.{orElse, firstUpto}
 use Rattle.rules.specs.Tape.{Body, ends, blockOf, startOf, size, byteAt, bytesFault, blockFault, firstFault}
-use Rattle.rules.specs.Cuts.{Piece, portion, blockEnd, before, spelled}
 use Rattle.rules.specs.Outcome.{stopPlace}
 use Rattle.basis.proofs.Uptos.{upto-same}
 use Rattle.refusals.proofs.Clears.{first-first}
@@ -37,29 +36,9 @@ module _ {St S : Type 0} (step : St → ℕ → St) (emit : St → ℕ → List 
   abbrev pub close : Run St S → Run St S
   close c = record { st = endOf (c .st); out = c .out }
 
-  abbrev pub pieces : Run St S → List Piece → Run St S
-  pieces c [] = c
-  pieces c (portion bs ∷ es) = pieces (feed c bs) es
-  pieces c (blockEnd ∷ es) = pieces (close c) es
-
   abbrev pub uncut : Run St S → List (List ℕ) → List ℕ → Run St S
   uncut c [] tail = feed c tail
   uncut c (b ∷ bs) tail = uncut (close (feed c b)) bs tail
-
-  feed-append : (c : Run St S) (ps qs : List ℕ) → feed c (ps ++ qs) ≡ feed (feed c ps) qs
-  feed-append c [] qs = refl
-  feed-append c (b ∷ ps) qs = feed-append (one c b) ps qs
-
-  uncut-before : (c : Run St S) (ps : List ℕ) (bs : List (List ℕ)) (tail : List ℕ)
-      → uncut (feed c ps) bs tail ≡ uncut c ((before ps bs tail) .blocks) ((before ps bs tail) .tail)
-  uncut-before c ps [] tail = sym (feed-append c ps tail)
-  uncut-before c ps (b ∷ bs) tail = ap (λ (x : Run St S). uncut (close x) bs tail) (sym (feed-append c ps b))
-
-  -- the cuts make no difference
-  pub pieces-uncut : (c : Run St S) (es : List Piece) → pieces c es ≡ uncut c ((spelled es) .blocks) ((spelled es) .tail)
-  pieces-uncut c [] = refl
-  pieces-uncut c (portion ps ∷ es) = pieces-uncut (feed c ps) es ∙ uncut-before c ps ((spelled es) .blocks) ((spelled es) .tail)
-  pieces-uncut c (blockEnd ∷ es) = pieces-uncut (close c) es
 
   both : {x y : St} {l m : List S} → x ≡ y → l ≡ m → _≡_ {A = Run St S} (record { st = x; out = l }) (record { st = y; out = m })
   both p q = λ i. record { st = p i; out = q i }

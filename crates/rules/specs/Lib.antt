@@ -4,4 +4,3 @@ pub mod Faults
 pub mod Samples
 pub mod Outcome
 pub mod First
-pub mod Cuts

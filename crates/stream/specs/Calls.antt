@@ -21,6 +21,12 @@ use Rattle.stream.specs.declared.Answer.the-variants.{GoingOn, Stopped, 
 unfoldable pub answered : State → ℕ → Answer
 answered s n = pick (eqb (s .stop) 0) (GoingOn (n / 2)) (Stopped (n / 2) (stopRefusal (s .stop) (s .stopat)))
 
+-- the samples that an answer says were written
+abbrev pub samplesTold : Answer → ℕ
+samplesTold (GoingOn n) = n
+samplesTold (Stopped n r) = n
+samplesTold (Refused r) = 0
+
 -- "13 and 23 change nothing and stop nothing"
 unfoldable pub unchanged : State → Refusal → Gave
 unchanged s r = record { state = s; answer = Refused r }
