@@ -49,8 +49,8 @@ use Rattle.rules.specs.Outcome.{doneOf}
 use Rattle.rules.proofs.Laws.{stop-first}
 use Rattle.scan.specs.declared.State.{State}
 use Rattle.scan.specs.Fit.{fitb}
-use Rattle.stream.specs.Calls.{portion, fitPortion, portionWrote, fitWrote, lacksRoom}
-use Rattle.body.specs.Ends.{blockEnd, close}
+use Rattle.stream.specs.Calls.{portion, fitPortion, portionWrote, fitWrote, unchanged}
+use Rattle.body.specs.Ends.{blockEnd, close, refused as refusedBy, nothing as noReport}
 use Rattle.agree.proofs.Agreement.{agreement, turned-away}
 use Rattle.framing.proofs.Framed.{framed}
 use Rattle.lister.proofs.Listed.{listed}
@@ -58,6 +58,7 @@ use Rattle.demands.specs.Demand1.{Unmoved, NoTrace, Demand1}
 use Rattle.demands.specs.Demand2.{OwnBytes, Compared, Cut, Askable, Demand2}
 use Rattle.demands.specs.Demand3.{InOrder, Demand3}
 use Rattle.demands.specs.Reel.{Reel}
+use Rattle.demands.proofs.Numbers.{numbers}
 use Rattle.demands.proofs.Uniques.{unique}
 use Rattle.demands.proofs.Helds.{unique-held}
 use Rattle.demands.proofs.Bounds.{bound}
@@ -71,14 +72,14 @@ use Rattle.demands.proofs.Figures.{all-figures}
 
 -- ---- 1
 unmoved : (s : State) → fitb s ≡ false → Unmoved s
-unfolding portion portionWrote blockEnd close pick
+unfolding portion portionWrote unchanged blockEnd close refusedBy noReport pick
 unmoved s f = record { portions = λ bs room. rw f; writes = λ bs room. rw f; blockEnds = rw f; closes = rw f }
 
-no-room : (s : State) (bs : List ℕ) (room : ℕ) → fitb s ≡ true → s .stop ≡ 0 → lacksRoom room (length bs) ≡ true → NoTrace s bs room
-unfolding portion fitPortion portionWrote fitWrote pick
+no-room : (s : State) (bs : List ℕ) (room : ℕ) → fitb s ≡ true → s .stop ≡ 0 → room < 2 * length bs → NoTrace s bs room
+unfolding portion fitPortion portionWrote fitWrote unchanged pick
 no-room s bs room f z l = record {
-  answer = rw (f, eq-eqb (s .stop) 0 z, l);
-  writes = rw (f, eq-eqb (s .stop) 0 z, l);
+  answer = rw (f, eq-eqb (s .stop) 0 z, lt-ltb room (2 * length bs) l);
+  writes = rw (f, eq-eqb (s .stop) 0 z, lt-ltb room (2 * length bs) l);
 }
 
 pub demand1 : Demand1
@@ -87,6 +88,7 @@ demand1 = record {
   held = unique-held;
   bound = bound;
   bound-held = bound-held;
+  numbers = numbers;
   stays-after-portion = stays-after-portion;
   stays-after-end = stays-after-end;
   stopped = stays;

@@ -1,8 +1,7 @@
 -- The one theorem of the starred figures: each follows from its definition by computing it.
 -- Assumes nothing.
 use mathlib.Core.Path.{refl}
-use Rattle.refusals.specs.declared.Refusal.the-variants as refusal
-use Rattle.layout.specs.declared.Place.the-variants.{Sits, NoPlace}
+use Rattle.layout.specs.declared.Place.the-variants.{Sits}
 use Rattle.basis.specs.Choice.{pick, _and_}
 use Rattle.basis.specs.Fields.{field}
 use Rattle.codes.specs.Codes.{table, findIn, rowOf, perIn, perOf, bitsOf}
@@ -19,7 +18,7 @@ use Rattle.sets.specs.ChannelSets.{quarters}
 use Rattle.header.specs.Faults.{sizeHolds, sizeFault, sizesFault, skewHolds, headerFault}
 use Rattle.layout.specs.Indexes.{passed, setAt, setOf, hasSample, spotOf, placeFault, placeAnswer}
 use Rattle.skew.specs.Times.{timeBy}
-use Rattle.demands.specs.Figures.{Says, header, place, starred, All, figures}
+use Rattle.demands.specs.Figures.{Says, header, place, refused, starred, All, figures}
 
 -- the starred header breaks no rule
 accepted : Says (header starred 148 378 5 288)
@@ -31,7 +30,7 @@ placed : Says (place starred 112 (Sits 3 1 1))
 unfolding pick upto written isPair pairOf byte upper lower pair decimal threeDigits binary pairs within descriptorPlace descriptorAt setSamples samplesOf _and_ passed setAt setOf hasSample spotOf placeFault placeAnswer
 placed = rw (accepted .0)
 
-past : Says (place starred 148 (NoPlace refusal.Index))
+past : Says (refused starred 148 11)
 unfolding pick upto written isPair pairOf byte upper lower pair decimal threeDigits binary pairs within descriptorPlace descriptorAt setSamples samplesOf _and_ hasSample placeFault placeAnswer
 past = rw (accepted .0)
 

@@ -1,3 +1,4 @@
+pub mod Numbers
 pub mod Uniques
 pub mod Helds
 pub mod Bounds

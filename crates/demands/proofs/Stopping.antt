@@ -20,11 +20,11 @@ use Rattle.scan.specs.Step.{after, wrote, halted}
 use Rattle.stream.specs.declared.Gave.{Gave}
 use Rattle.stream.specs.declared.Answer.the-variants.{GoingOn, Stopped}
 use Rattle.stream.specs.Calls.{portion, fitPortion, fed, portionWrote, fitWrote, answered, unchanged}
-use Rattle.body.specs.Ends.{blockEnd, ended, oneEnd, due, close, finish, refused}
+use Rattle.body.specs.Ends.{blockEnd, ended, oneEnd, due, close, finish, refused, nothing as noReport}
 use Rattle.stream.proofs.Cuts.{portion-fit}
 use Rattle.body.proofs.BlockEnds.{end-fit}
 use Rattle.agree.specs.Calls.{Call, put, end, readOn}
-use Rattle.demands.specs.Demand1.{SameStop, stands}
+use Rattle.demands.specs.Demand1.{SameStop, stands, unreported}
 
 module _ (s : State) (f : fitb s ≡ true) (n : s .stop ≡ 0 → ⊥) where
   portions : (bs : List ℕ) (room : ℕ) → portion s bs room ≡ stands s (stopRefusal (s .stop) (s .stopat))
@@ -39,8 +39,8 @@ module _ (s : State) (f : fitb s ≡ true) (n : s .stop ≡ 0 → ⊥) where
   unfolding blockEnd ended answered pick
   ends = rw (f, ne-eqb (s .stop) 0 n)
 
-  closes : close s ≡ refused (stopRefusal (s .stop) (s .stopat))
-  unfolding close finish pick
+  closes : close s ≡ unreported (stopRefusal (s .stop) (s .stopat))
+  unfolding close finish refused noReport pick
   closes = rw (f, ne-eqb (s .stop) 0 n)
 
   forever : (w : List ℤ) (cs : List Call) → readOn (record { state = s; numbers = w }) cs ≡ record { state = s; numbers = w }

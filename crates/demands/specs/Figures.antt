@@ -8,7 +8,7 @@ use mathlib.Core.List.{List, [], _∷_, _++_}
 use lib.IntN.{ℤ, pos, negℤ}
 use lib.ListN.{length, replicate}
 use Rattle.refusals.specs.declared.Fault.the-variants.{Clear}
-use Rattle.refusals.specs.declared.Refusal.the-variants as refusal
+use Rattle.refusals.specs.Table.{said}
 use Rattle.values.specs.Values.{Scaled, scaled, Same}
 use Rattle.words.specs.declared.Word.{Word}
 use Rattle.words.specs.declared.Word.the-variants.{Sample}
@@ -55,10 +55,17 @@ pub data Figure : Type 0 where
   header : (block : List ℕ) → (samples : ℕ) → (scan : ℕ) → (skew : ℕ) → (bytes : ℕ) → Figure
   -- the place of sample k of scan type 1 of a header block
   place : (block : List ℕ) → (k : ℕ) → Place → Figure
+  -- the number by which the question for sample k of scan type 1 of a header block is refused
+  refused : (block : List ℕ) → (k : ℕ) → (number : ℕ) → Figure
   -- a sample's time, of T, SS and I
   time : (T : ℕ) → (SS : ℕ) → (I : ℕ) → ℕ → Figure
   -- the timing word that comes after one, of I and T
   timing : (I : ℕ) → (T : ℕ) → ℕ → Figure
+
+-- the number that a question for a place is refused by; none is 0
+abbrev numberIn : Place → ℕ
+numberIn (Sits set channel subscan) = 0
+numberIn (NoPlace r) = said r .number
 
 -- what a line says
 abbrev pub Says : Figure → Type 0
@@ -69,6 +76,7 @@ Says (pair byte is) = packedOf byte ≡ is
 Says (header block samples scan skew bytes) =
     (headerFault block ≡ Clear) × (samplesOf block 0 ≡ samples) × (bytesPerScan block ≡ scan) × (skewFields block ≡ skew) × (length block ≡ bytes)
 Says (place block k is) = placeAnswer block 1 k ≡ is
+Says (refused block k number) = numberIn (placeAnswer block 1 k) ≡ number
 Says (time T SS I is) = timeBy T SS I ≡ is
 Says (timing I T is) = nextTiming I T ≡ is
 
@@ -96,7 +104,7 @@ figures =
     time 512 1 32 8224 ∷
     header starred 148 378 5 288 ∷
     place starred 112 (Sits 3 1 1) ∷
-    place starred 148 (NoPlace refusal.Index) ∷
+    refused starred 148 11 ∷
     []
 
 -- every line of a table holds

@@ -1,3 +1,4 @@
+pub mod Numbers
 pub mod One
 pub mod Unique
 pub mod Held

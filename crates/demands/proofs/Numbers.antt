@@ -1,0 +1,32 @@
+-- Each refusal answers what the table says of it, row by row.
+-- Assumes nothing.
+use mathlib.Core.Path.{_≡_, refl}
+use Rattle.refusals.specs.declared.Refusal.{Refusal}
+use Rattle.refusals.specs.declared.Refusal.the-variants as refusal
+use Rattle.refusals.specs.Table.{said}
+use Rattle.demands.specs.Numbers.{numbered}
+
+pub numbers : (r : Refusal) → said r ≡ numbered r
+numbers refusal.Short = refl
+numbers refusal.Format = refl
+numbers refusal.Demux = refl
+numbers refusal.Digit = refl
+numbers refusal.Range = refl
+numbers refusal.Length = refl
+numbers (refusal.Descriptor a b) = refl
+numbers (refusal.Four a b) = refl
+numbers (refusal.Size a) = refl
+numbers refusal.Skew = refl
+numbers refusal.Index = refl
+numbers refusal.Sheet = refl
+numbers refusal.Room = refl
+numbers (refusal.Long a) = refl
+numbers (refusal.Block a) = refl
+numbers (refusal.Sync a) = refl
+numbers (refusal.Timing a) = refl
+numbers (refusal.Phase a) = refl
+numbers refusal.Part = refl
+numbers refusal.Open = refl
+numbers refusal.Missing = refl
+numbers refusal.Large = refl
+numbers refusal.State = refl
