@@ -35,8 +35,8 @@ pub enum Found {
     Nothing,
 }
 
-// The rows of the multiplexed codes, by name: a reader of one code alone cites its row. Words of 0022 and 0042 are read from tables and those of 0015 by a form of their own, so that no other crate cites theirs.
-const ROW_15: Row = Row {
+// The rows of the multiplexed codes, by name: a reader of one code alone cites its row.
+pub const ROW_15: Row = Row {
     code: 0x0015,
     width: 20,
     apart: 4,

@@ -2,11 +2,12 @@
 -- Assumes nothing.
 use Prim.Native.Nat.{ℕ, _+_, _-_, _*_, _/_, _%_}
 use mathlib.Core.List.{List}
-use lib.Dec.{leb}
+use lib.Dec.{eqb, leb}
 use lib.ListN.{length}
 use Rattle.basis.specs.Choice.{pick}
 use Rattle.basis.specs.Digits.{written, byteIn}
 use Rattle.basis.specs.Fields.{field}
+use Rattle.codes.specs.Codes.{wordBytesOf}
 use Rattle.words.specs.declared.Value.{Value}
 use Rattle.words.specs.Words.{valueOf}
 use Rattle.entries.specs.Entries.{byteCode}
@@ -18,6 +19,14 @@ fourAt bs i = pick (leb (i + 4) (length bs)) (written 256 (byteIn bs) i 4) 0
 -- the words of w bytes that so many bytes hold
 unfoldable pub wordsIn : ℕ → ℕ → ℕ
 wordsIn w bytes = bytes / w
+
+-- the code of words that stand alone and have more than one byte: 0048, 0024 or else 0044
+unfoldable pub plainCode : ℕ → ℕ
+plainCode code = pick (eqb code 0x0048) 0x0048 (pick (eqb code 0x0024) 0x0024 0x0044)
+
+-- the bytes of its words, as its row has them
+abbrev pub plainBytes : ℕ → ℕ
+plainBytes code = wordBytesOf (plainCode code)
 
 -- a word of w bytes, of a code whose words stand alone
 unfoldable pub plainValue : ℕ → ℕ → List ℕ → ℕ → Value

@@ -1,11 +1,11 @@
-// Whole sample words, read one after another. 0024, 0044, 0048 and 0015 have loops of their own, whose decoders are made of constants; 0022 and 0042 share one, by their tables. And four bytes as one number, for `stream`.
+// Whole sample words, read one after another. 0024, 0044 and 0048 share a loop, which the compiler makes anew for each of them, and 0015 has its own: the decoders are made of constants; 0022 and 0042 share one, by their tables. And four bytes as one number, for `stream`.
 ghost use mathlib.Core.Path.{_≡_};
 ghost use Prim.Native.Nat.{min, _+_, _*_, _/_, _%_, _≤_, _<_};
 ghost use lib.ListN.{length, take, set};
 ghost use Rattle.basis.specs.Digits.{written, byteIn};
 ghost use Rattle.words.specs.Words.{valueOf, offOne};
 ghost use Rattle.entries.specs.Entries.{byteCode};
-ghost use Rattle.runs.specs.Words.{fourAt, wordsIn, groupedIn, groupExponent, groupWord, byteValue, plainValue, groupedValue, restValue};
+ghost use Rattle.runs.specs.Words.{fourAt, wordsIn, groupedIn, groupExponent, groupWord, byteValue, plainCode, plainBytes, plainValue, groupedValue, restValue};
 ghost use Rattle.runs.specs.Runs.{offs, numbers, over, ran, filled};
 use words::Value;
 
@@ -227,24 +227,49 @@ pub fn byte_words(code: u16, bytes: &[u8], out: &mut [i32]) -> Ran
     }
 }
 
-// Words of 0024.
-pub fn words24(bytes: &[u8], out: &mut [i32]) -> Ran
-    ensures { λ r. ⌜ r ≡ ran (wordsIn 2) (plainValue 0x0024 2) (now (bytes .entry)) (now (out .entry)) ⌝ }
-    ensures { λ r. ⌜ now (out .exit) ≡ filled (wordsIn 2) (plainValue 0x0024 2) (now (bytes .entry)) (now (out .entry)) ⌝ }
+// Word k of 0048, 0024 or else 0044, whose words stand alone.
+fn plain_word(code: u16, bytes: &[u8], k: usize) -> Value
+    requires { ⌜ (k + 1) * plainBytes code ≤ length (now bytes) ⌝ }
+    ensures { λ r. ⌜ r ≡ plainValue (plainCode code) (plainBytes code) (now (bytes .entry)) k ⌝ }
 {
-    let n = least(bytes.len() / 2, out.len() / 2);
+    if code == 0x0048 {
+        return words::value48(big4(bytes, 4 * k));
+    }
+    let word = big2(bytes, 2 * k);
+    if code == 0x0024 {
+        words::value24(word)
+    } else {
+        words::value44(word)
+    }
+}
+
+// Words of such a code, of w bytes: one loop, which the compiler makes anew for each code, of that code's constants.
+fn plain_words(code: u16, w: usize, bytes: &[u8], out: &mut [i32]) -> Ran
+    requires { ⌜ w ≡ plainBytes code ⌝ }
+    ensures { λ r. ⌜ r ≡ ran (wordsIn w) (plainValue (plainCode code) w) (now (bytes .entry)) (now (out .entry)) ⌝ }
+    ensures { λ r. ⌜ now (out .exit) ≡ filled (wordsIn w) (plainValue (plainCode code) w) (now (bytes .entry)) (now (out .entry)) ⌝ }
+{
+    let n = least(bytes.len() / w, out.len() / 2);
     let mut off: usize = 0;
     let mut k: usize = 0;
     while k < n {
-        let w = words::value24(big2(bytes, 2 * k));
-        off = count(off, w);
-        put(out, k, w);
+        let v = plain_word(code, bytes, k);
+        off = count(off, v);
+        put(out, k, v);
         k += 1;
     }
     Ran {
         samples: n,
         off: off,
     }
+}
+
+// Words of 0024.
+pub fn words24(bytes: &[u8], out: &mut [i32]) -> Ran
+    ensures { λ r. ⌜ r ≡ ran (wordsIn 2) (plainValue 0x0024 2) (now (bytes .entry)) (now (out .entry)) ⌝ }
+    ensures { λ r. ⌜ now (out .exit) ≡ filled (wordsIn 2) (plainValue 0x0024 2) (now (bytes .entry)) (now (out .entry)) ⌝ }
+{
+    plain_words(0x0024, 2, bytes, out)
 }
 
 // Words of 0044.
@@ -252,19 +277,7 @@ pub fn words44(bytes: &[u8], out: &mut [i32]) -> Ran
     ensures { λ r. ⌜ r ≡ ran (wordsIn 2) (plainValue 0x0044 2) (now (bytes .entry)) (now (out .entry)) ⌝ }
     ensures { λ r. ⌜ now (out .exit) ≡ filled (wordsIn 2) (plainValue 0x0044 2) (now (bytes .entry)) (now (out .entry)) ⌝ }
 {
-    let n = least(bytes.len() / 2, out.len() / 2);
-    let mut off: usize = 0;
-    let mut k: usize = 0;
-    while k < n {
-        let w = words::value44(big2(bytes, 2 * k));
-        off = count(off, w);
-        put(out, k, w);
-        k += 1;
-    }
-    Ran {
-        samples: n,
-        off: off,
-    }
+    plain_words(0x0044, 2, bytes, out)
 }
 
 // Words of 0048.
@@ -272,19 +285,7 @@ pub fn words48(bytes: &[u8], out: &mut [i32]) -> Ran
     ensures { λ r. ⌜ r ≡ ran (wordsIn 4) (plainValue 0x0048 4) (now (bytes .entry)) (now (out .entry)) ⌝ }
     ensures { λ r. ⌜ now (out .exit) ≡ filled (wordsIn 4) (plainValue 0x0048 4) (now (bytes .entry)) (now (out .entry)) ⌝ }
 {
-    let n = least(bytes.len() / 4, out.len() / 2);
-    let mut off: usize = 0;
-    let mut k: usize = 0;
-    while k < n {
-        let w = words::value48(big4(bytes, 4 * k));
-        off = count(off, w);
-        put(out, k, w);
-        k += 1;
-    }
-    Ran {
-        samples: n,
-        off: off,
-    }
+    plain_words(0x0048, 4, bytes, out)
 }
 
 // The exponent of word k of groups of 0015, in the lowest four bits.

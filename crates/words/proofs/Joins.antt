@@ -31,3 +31,18 @@ module _ (s e q m k l : ℕ) (hs : s ≤ m) (he : e ≤ k) (hq : q ≤ l) where
 
   pub all-greatest : eqb (s + e + q) (m + k + l) ≡ (eqb s m && (eqb e k && eqb q l))
   all-greatest = by-tests (eqb s m) (eqb e k) (eqb q l) refl refl refl
+
+-- two tests are one where each says the other
+module _ {a b c d : ℕ} (f : a ≡ b → c ≡ d) (g : c ≡ d → a ≡ b) where
+  told : (t : Bool) → eqb c d ≡ t → eqb a b ≡ t
+  told true e = eq-eqb a b (g (eqb-true c d e))
+  told false e = ne-eqb a b (λ z. eqb-false c d e (f z))
+
+  same-test : eqb a b ≡ eqb c d
+  same-test = told (eqb c d) refl
+
+-- a test for negative zero, of S and of Q below p: that they make p says that both are all ones
+pub both-ones : {a b : ℕ} (s q p : ℕ) → s < 2 → q < p → (a ≡ b → s + q ≡ p) → (s + q ≡ p → a ≡ b) → eqb a b ≡ (eqb s 1 && eqb (p - 1 - q) 0)
+both-ones {a} {b} zero q p l h f g = ne-eqb a b (λ e. omega (arith, f e))
+both-ones (suc zero) q p l h f g = same-test {c = p - 1 - q} {d = 0} (λ e. omega (arith, f e)) (λ e. g (omega arith))
+both-ones (suc (suc s)) q p l h f g = absurd (omega arith)

@@ -1,11 +1,11 @@
--- M of a fraction and its sign: what each way to reckon it comes to.
+-- M of a fraction and its sign, at any width: Q less a sum, and two's complement.
 -- Assumes nothing.
-use Prim.Native.Nat.{ℕ, zero, suc, _+_, _-_, _*_, _/_, _%_, _^_, _<_}
-use mathlib.Core.Path.{_≡_, refl, _∙_, ap}
-use native.Mathlib.Omega.{arith}
+use Prim.Native.Nat.{ℕ, zero, suc, _+_, _-_, _*_, _<_, _≤_}
+use mathlib.Core.Path.{_≡_, ap}
 use native.Mathlib.Nat.{zero-mul, one-mul, add-zero, add-suc}
+use native.Mathlib.Omega.{arith}
 use lib.Dec.{eqb}
-use lib.IntN.{pos, negsuc, negℤ, _+ℤ_, _-ℤ_, +ℤ-invr}
+use lib.IntN.{pos, negsuc, negℤ, _-ℤ_, +ℤ-invr}
 use borrow.Author.Tests.{le-ltb, lt-ltb}
 use Rattle.basis.specs.Choice.{pick}
 use Rattle.basis.proofs.Numbers.{minus-zero}
@@ -15,43 +15,24 @@ less : (q k : ℕ) → pos q -ℤ pos (q + k) ≡ negℤ (pos k)
 less q zero = rw (add-zero q) (+ℤ-invr (pos q))
 less q (suc k) = rw (add-suc q k, lt-ltb q (suc (q + k)) (omega arith)) (ap negsuc (omega arith))
 
--- Q less twice itself
-pub by-double : (s q : ℕ) → s < 2 → pos q -ℤ pos (s * (q + q)) ≡ pick (eqb s 0) (pos q) (negℤ (pos q))
+-- Q less S times itself and k
+pub summed : (s q k : ℕ) → s < 2 → pos q -ℤ pos (s * (q + k)) ≡ pick (eqb s 0) (pos q) (negℤ (pos k))
 unfolding pick
-by-double zero q h = rw (zero-mul (q + q)) (minus-zero q)
-by-double (suc zero) q h = rw (one-mul (q + q)) (less q q)
-by-double (suc (suc s)) q h = absurd (omega arith)
+summed zero q k h = rw (zero-mul (q + k)) (minus-zero q)
+summed (suc zero) q k h = rw (one-mul (q + k)) (less q k)
+summed (suc (suc s)) q k h = absurd (omega arith)
 
--- Q less p - 1
-pub by-ones : (s q p : ℕ) → s < 2 → q < p → pos q -ℤ pos (s * (p - 1)) ≡ pick (eqb s 0) (pos q) (negℤ (pos (p - 1 - q)))
-unfolding pick
-by-ones zero q p h l = rw (zero-mul (p - 1)) (minus-zero q)
-by-ones (suc zero) q p h l =
-    let e : p - 1 ≡ q + (p - 1 - q) = omega arith in
-    rw (one-mul (p - 1)) (ap (λ (k : ℕ). pos q -ℤ pos k) e ∙ less q (p - 1 - q))
-by-ones (suc (suc s)) q p h l = absurd (omega arith)
+pub below : (s m p : ℕ) → s < 2 → m < p → s * m < p
+below zero m p h l = rw (zero-mul m) (omega arith)
+below (suc zero) m p h l = rw (one-mul m) l
+below (suc (suc s)) m p h l = absurd (omega arith)
 
--- a negative number, and one
-next-up : (k : ℕ) → negsuc k +ℤ pos 1 ≡ negℤ (pos k)
-next-up zero = refl
-next-up (suc k) = rw (lt-ltb 1 (suc (suc k)) (omega arith)) (ap negsuc (omega arith))
+-- a number less p, half of what it is below, as two's complement has it: not negative from p on
+pub from-half : (u p : ℕ) → p ≤ u → pos u -ℤ pos p ≡ pos (u - p)
+from-half u zero h = ap pos (omega arith)
+from-half u (suc p) h = rw (le-ltb u (suc p) h)
 
--- S and Q as one number t of 15 bits, read as two's complement: Q, or Q less 16384; with S added to it, Q less 16383
-pub by-turn : (s t : ℕ) → t < 32768 → s ≡ t / 16384
-    → (pos ((t + 16384) % 32768) -ℤ pos 16384) +ℤ pos s ≡ pick (eqb s 0) (pos (t % 16384)) (negℤ (pos (16383 - t % 16384)))
-unfolding pick
-by-turn zero t h e =
-    let a : (t + 16384) % 32768 ≡ t + 16384 = omega arith in
-    let b : t % 16384 ≡ t = omega arith in
-    rw (a, b, le-ltb (t + 16384) 16384 (omega arith)) (ap pos (omega arith))
-by-turn (suc zero) t h e =
-    let a : (t + 16384) % 32768 ≡ t % 16384 = omega arith in
-    let l : t % 16384 < 16384 = omega arith in
-    let k : 16384 - suc (t % 16384) ≡ 16383 - t % 16384 = omega arith in
-    rw (a, lt-ltb (t % 16384) 16384 l) (rw k (next-up (16383 - t % 16384)))
-by-turn (suc (suc s)) t h e = absurd (omega arith)
-
-pub below : (s m : ℕ) → s < 2 → m < 2 ^ 31 → s * m < 2 ^ 31
-below zero m h l = rw (zero-mul m) (omega arith)
-below (suc zero) m h l = rw (one-mul m) l
-below (suc (suc s)) m h l = absurd (omega arith)
+-- below p negative, and its complement is p - 1 less the number
+pub complement : (u p : ℕ) → u < p → negsuc 0 -ℤ (pos u -ℤ pos p) ≡ pos (p - 1 - u)
+complement u zero h = absurd (omega arith)
+complement u (suc p) h = rw (lt-ltb u (suc p) h, le-ltb (suc (suc p - suc u)) 1 (omega arith)) (ap pos (omega arith))

@@ -2,9 +2,12 @@
 ghost use mathlib.Core.Path.{_≡_};
 ghost use Prim.Native.Nat.{_<_, _≤_, _^_, _*_, _+_, _-_, _/_, _%_};
 ghost use mathlib.Core.Bool.{_&&_, _||_};
-ghost use lib.Dec.{ltb};
+ghost use lib.Dec.{eqb, ltb};
+ghost use lib.IntN.{pos, negℤ};
+ghost use Rattle.basis.specs.Choice.{pick};
 ghost use Rattle.basis.specs.Fields.{field};
-ghost use Rattle.codes.specs.Codes.{SoundRow, row};
+ghost use Rattle.codes.specs.Codes.{SoundRow, row, rowOf};
+ghost use Rattle.codes.specs.declared.Found.the-variants.{At};
 ghost use Rattle.codes.specs.declared.Kind.the-variants.{OnesComplement, SignMagnitude, Justified};
 ghost use Rattle.words.specs.Words.{signedFraction, powerOf, lastBit, negativeZero, allOnes, offRule, sampleIn, wordIn, wordOf, valued, valueOf};
 use codes::Found;
@@ -49,43 +52,31 @@ fn bits(word: u32, at: u32, size: u32) -> u32
     (word >> at) & ones(size)
 }
 
-// M of a fraction whose negatives are complemented: where S is set, Q less n bits that are all set.
-fn complemented(n: u32, s: u32, q: u32) -> i32
-    requires { ⌜ (n < 31) × (s < 2) × (q < 2 ^ n) ⌝ }
-    ensures { λ r. ⌜ r ≡ signedFraction OnesComplement n s q ⌝ }
+// M of a fraction Q with its sign S: Q, or minus what a negative Q keeps. LLVM makes a choice of two numbers of it, and no branch, which would be predicted badly.
+fn with_sign(s: u32, q: u32, kept: u32) -> i32
+    requires { ⌜ (q < 2 ^ 31) × (kept < 2 ^ 31) ⌝ }
+    ensures { λ r. ⌜ r ≡ pick (eqb s 0) (pos q) (negℤ (pos kept)) ⌝ }
 {
-    basis::difference(q, s * ones(n))
+    if s == 0 { q as i32 } else { -(kept as i32) }
 }
 
-// M of a magnitude with a sign: Q less twice itself.
-fn doubled(n: u32, s: u32, q: u32) -> i32
-    requires { ⌜ (n < 31) × (s < 2) × (q < 2 ^ n) ⌝ }
-    ensures { λ r. ⌜ r ≡ signedFraction SignMagnitude n s q ⌝ }
+// The same without a choice: Q less S times Q and what it keeps. In a loop over words of two bytes LLVM so takes eight at a turn; with the choice it takes four.
+fn by_sum(s: u32, q: u32, kept: u32) -> i32
+    requires { ⌜ (s < 2) × (q < 2 ^ 30) × (kept < 2 ^ 30) ⌝ }
+    ensures { λ r. ⌜ r ≡ pick (eqb s 0) (pos q) (negℤ (pos kept)) ⌝ }
 {
-    basis::difference(q, s * (q + q))
+    basis::difference(q, s * (q + kept))
 }
 
-// The same of the widest fraction, as a choice: LLVM makes two instructions of it, and no branch.
-fn with_sign(n: u32, s: u32, q: u32) -> i32
-    requires { ⌜ (n < 31) × (s < 2) × (q < 2 ^ n) ⌝ }
-    ensures { λ r. ⌜ r ≡ signedFraction Justified n s q ⌝ }
-{
-    if s == 0 {
-        basis::difference(q, 0)
-    } else {
-        basis::difference(0, q)
-    }
-}
-
-// M, by how the fraction is kept. No way leaves a branch on a sample's sign, which would be predicted badly.
+// M, by how the fraction is kept: minus the complemented Q, or minus Q.
 fn signed_fraction(kind: Kind, n: u32, s: u32, q: u32) -> i32
     requires { ⌜ (n < 31) × (s < 2) × (q < 2 ^ n) ⌝ }
     ensures { λ r. ⌜ r ≡ signedFraction kind n s q ⌝ }
 {
     match kind {
-        Kind::OnesComplement => complemented(n, s, q),
-        Kind::SignMagnitude => doubled(n, s, q),
-        Kind::Justified => with_sign(n, s, q),
+        Kind::OnesComplement => by_sum(s, q, ones(n) - q),
+        Kind::SignMagnitude => by_sum(s, q, q),
+        Kind::Justified => with_sign(s, q, q),
     }
 }
 
@@ -239,108 +230,11 @@ pub fn read(code: u16, c: u32, word: u32) -> Value
     as_value(read_word(code, c, word))
 }
 
-// M of an 0015 word, S and Q being one number t of 15 bits: as two's complement it is M, or one less where S is set.
-fn fraction15(s: u32, t: u32) -> i32
-    requires { ⌜ (t < 32768) × (s ≡ t / 16384) ⌝ }
-    ensures { λ r. ⌜ r ≡ signedFraction OnesComplement 14 s (t % 16384) ⌝ }
+// A word of a multiplexed code, by its row, where no exponent stands apart from it.
+fn by_row(r: Row, word: u32) -> Value
+    requires { ⌜ (rowOf (r .code) ≡ At r) × (r .code < 0x8000) × (word < 2 ^ (r .width - r .apart)) ⌝ }
+    ensures { λ v. ⌜ v ≡ valueOf (r .code) 0 word ⌝ }
 {
-    basis::difference((t + 16384) % 32768, 16384) + s as i32
-}
-
-// A word of 0015, with the exponent in the lowest four bits of c.
-pub fn value15(c: u32, word: u16) -> Value
-    ensures { λ r. ⌜ r ≡ valueOf 0x0015 (c % 16) word ⌝ }
-{
-    let w = word as u32;
-    let t = w / 2;
-    Value {
-        m: fraction15(w / 32768, t),
-        x: basis::difference(c % 16, 14),
-        off: (w % 2 == 1) | (t == 32767),
-    }
-}
-
-// A word of 0022.
-pub fn value22(word: u8) -> Value
-    ensures { λ r. ⌜ r ≡ valueOf 0x0022 0 word ⌝ }
-{
-    let r = codes::ROW_22;
-    let kind = r.kind;
-    as_value(sample(
-        kind,
-        r.width,
-        r.apart,
-        r.fraction,
-        r.base,
-        r.exponent,
-        r.bias,
-        0,
-        word as u32,
-    ))
-}
-
-// A word of 0042.
-pub fn value42(word: u8) -> Value
-    ensures { λ r. ⌜ r ≡ valueOf 0x0042 0 word ⌝ }
-{
-    let r = codes::ROW_42;
-    let kind = r.kind;
-    as_value(sample(
-        kind,
-        r.width,
-        r.apart,
-        r.fraction,
-        r.base,
-        r.exponent,
-        r.bias,
-        0,
-        word as u32,
-    ))
-}
-
-// A word of 0024.
-pub fn value24(word: u16) -> Value
-    ensures { λ r. ⌜ r ≡ valueOf 0x0024 0 word ⌝ }
-{
-    let r = codes::ROW_24;
-    let kind = r.kind;
-    as_value(sample(
-        kind,
-        r.width,
-        r.apart,
-        r.fraction,
-        r.base,
-        r.exponent,
-        r.bias,
-        0,
-        word as u32,
-    ))
-}
-
-// A word of 0044.
-pub fn value44(word: u16) -> Value
-    ensures { λ r. ⌜ r ≡ valueOf 0x0044 0 word ⌝ }
-{
-    let r = codes::ROW_44;
-    let kind = r.kind;
-    as_value(sample(
-        kind,
-        r.width,
-        r.apart,
-        r.fraction,
-        r.base,
-        r.exponent,
-        r.bias,
-        0,
-        word as u32,
-    ))
-}
-
-// A word of 0048.
-pub fn value48(word: u32) -> Value
-    ensures { λ r. ⌜ r ≡ valueOf 0x0048 0 word ⌝ }
-{
-    let r = codes::ROW_48;
     let kind = r.kind;
     as_value(sample(
         kind,
@@ -353,4 +247,71 @@ pub fn value48(word: u32) -> Value
         0,
         word,
     ))
+}
+
+// A word of 0022.
+pub fn value22(word: u8) -> Value
+    ensures { λ r. ⌜ r ≡ valueOf 0x0022 0 word ⌝ }
+{
+    by_row(codes::ROW_22, word as u32)
+}
+
+// A word of 0042.
+pub fn value42(word: u8) -> Value
+    ensures { λ r. ⌜ r ≡ valueOf 0x0042 0 word ⌝ }
+{
+    by_row(codes::ROW_42, word as u32)
+}
+
+// A word of 0024.
+pub fn value24(word: u16) -> Value
+    ensures { λ r. ⌜ r ≡ valueOf 0x0024 0 word ⌝ }
+{
+    by_row(codes::ROW_24, word as u32)
+}
+
+// A word of 0044.
+pub fn value44(word: u16) -> Value
+    ensures { λ r. ⌜ r ≡ valueOf 0x0044 0 word ⌝ }
+{
+    by_row(codes::ROW_44, word as u32)
+}
+
+// A word of 0048.
+pub fn value48(word: u32) -> Value
+    ensures { λ r. ⌜ r ≡ valueOf 0x0048 0 word ⌝ }
+{
+    by_row(codes::ROW_48, word)
+}
+
+// One more than the greatest Q of an 0015 word, by its row.
+const HALF: u32 = 1 << codes::ROW_15.fraction;
+
+// One more than the greatest number that S and Q make side by side.
+const FULL: u32 = 2 * HALF;
+
+// One more than the greatest exponent.
+const EXPONENTS: u32 = 1 << codes::ROW_15.apart;
+
+// M of an 0015 word, S and Q being one number t. As two's complement it is v, and where S is set the complemented Q is v's complement, -1 - v: so LLVM needs an addition where a choice between Q and minus the complemented Q takes more.
+fn fraction15(t: u32) -> i32
+    requires { ⌜ t < 32768 ⌝ }
+    ensures { λ r. ⌜ r ≡ signedFraction OnesComplement 14 (t / 2 ^ 14) (t % 2 ^ 14) ⌝ }
+{
+    let v = basis::difference((t + HALF) % FULL, HALF);
+    if t < HALF { v } else { -(-1 - v) }
+}
+
+// A word of 0015, with the exponent in the lowest four bits of c. Its last bit is not used.
+pub fn value15(c: u32, word: u16) -> Value
+    ensures { λ r. ⌜ r ≡ valueOf 0x0015 (c % 16) word ⌝ }
+{
+    let r = codes::ROW_15;
+    let w = word as u32;
+    let t = w / 2;
+    Value {
+        m: fraction15(t),
+        x: power(r.base, r.bias, r.fraction, c % EXPONENTS),
+        off: last_bit(w % 2) | (t == FULL - 1),
+    }
 }

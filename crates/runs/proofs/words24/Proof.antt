@@ -1,77 +1,13 @@
--- `runs::words24` meets its contract: its loop keeps that the first k words are written.
+-- `runs::words24` meets its contract.
 -- Assumes nothing.
-use Prim.Native.Nat.{_-_}
-use mathlib.Core.Path.{_∙_}
-use native.Mathlib.Omega.{arith}
-use denote.Ref.{now}
-use lib.ListN.{length}
-use Rattle.runs.specs.Words.{wordsIn, plainValue}
-use Rattle.runs.proofs.Done.{Done, done-none, done-more, loop-ends}
+use mathlib.Core.Path.{refl}
+use Rattle.basis.specs.Choice.{pick}
+use Rattle.codes.specs.Codes.{rowOf, findIn, table, wordBytesIn, wordBytesOf}
+use Rattle.runs.specs.Words.{plainCode}
+use borrow.Author.Needs.{needs}
 use Rattle.runs.proofs.words24.Statement.{statement}
 use Rattle.runs.proofs.words24.Tie as tie
 
-abbrev Inv-loop : tie.InvT-loop
-Inv-loop bytes out₀ n off₀ k₀ out off k = Done (plainValue 0x0024 2 bytes) (wordsIn 2 (length bytes)) n out₀ out off k
-
-abbrev μ-loop : tie.MeasureT-loop
-μ-loop bytes out₀ n off₀ k₀ out off k = n - k
-
-least-requires : tie.Need-least-requires Inv-loop μ-loop
-least-requires c κs = tt
-
-loop-holds : tie.Need-loop-holds Inv-loop μ-loop
-unfolding wordsIn
-loop-holds c = done-none _ _ _ _ (c .least .ensures)
-
-mul-big2 : tie.Need-mul-big2 Inv-loop μ-loop
-unfolding wordsIn
-mul-big2 c = omega arith
-
-big2-requires : tie.Need-big2-requires Inv-loop μ-loop
-unfolding wordsIn
-big2-requires c κs = omega arith
-
-value24-requires : tie.Need-value24-requires Inv-loop μ-loop
-value24-requires c κs = tt
-
-count-requires : tie.Need-count-requires Inv-loop μ-loop
-count-requires c κs = omega arith
-
-put-requires : tie.Need-put-requires Inv-loop μ-loop
-put-requires c κs = omega arith
-
-add-k : tie.Need-add-k Inv-loop μ-loop
-add-k c = omega arith
-
-loop-less : tie.Need-loop-less Inv-loop μ-loop
-loop-less c = omega arith
-
-loop-again : tie.Need-loop-again Inv-loop μ-loop
-unfolding plainValue
-loop-again c =
-    rw (c .before .put .ensures) (done-more (c .before .before .before .before .before .before .before .loop .inv) (c .before .before .before .before .before .before .loop-test .taken) (c .before .before .before .before .value24 .ensures ∙ rw (c .before .before .before .before .before .big2 .ensures)) (c .before .before .before .count .ensures))
-
-same-length : tie.Need-same-length Inv-loop μ-loop
-same-length c = c .before .loop .inv .same
-
-returns : tie.Need-returns Inv-loop μ-loop
-returns c = loop-ends (wordsIn 2) (plainValue 0x0024 2) (now (c .before .before .before .before .args .bytes)) (c .before .loop .inv) (c .loop-test .left)
-
 pub words24-spec : {M : Type 1} → statement M
-words24-spec =
-    tie.close
-    (tie.spec
-    Inv-loop
-    μ-loop
-    least-requires
-    loop-holds
-    mul-big2
-    big2-requires
-    value24-requires
-    count-requires
-    put-requires
-    add-k
-    loop-less
-    loop-again
-    same-length
-    returns)
+unfolding plainCode pick wordBytesOf wordBytesIn rowOf findIn table
+words24-spec = tie.close (tie.spec (λ c κs. refl) (λ c. search needs) (λ c. search needs))

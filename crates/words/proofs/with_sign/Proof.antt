@@ -1,35 +1,32 @@
 -- `words::with_sign` meets its contract.
 -- Assumes nothing.
 use mathlib.Core.Path.{_∙_}
-use native.Mathlib.Omega.{arith}
 use lib.Dec.{lit<}
+use mir.Syntax.{w32}
+use mir.Facts.{toZ-pos}
 use borrow.Author.Tests.{eq-eqb, ne-eqb}
 use Rattle.basis.specs.Choice.{pick}
-use Rattle.basis.proofs.Numbers.{below-pow, difference-is, minus-zero, zero-minus}
-use Rattle.words.specs.Words.{signedFraction}
+use Rattle.basis.proofs.Numbers.{minus-fits, minus-is, zero-minus}
 use borrow.Author.Needs.{needs}
 use Rattle.words.proofs.with_sign.Statement.{statement}
 use Rattle.words.proofs.with_sign.Tie as tie
 
-difference-requires : tie.Need-difference-requires
-difference-requires c κs = search needs
+cast-result : tie.Need-cast-result
+cast-result c = search needs
 
-difference-requires-2 : tie.Need-difference-requires-2
-difference-requires-2 c κs = search needs
+cast-result-2 : tie.Need-cast-result-2
+cast-result-2 c = search needs
+
+sub-result : tie.Need-sub-result
+sub-result c = minus-fits w32 0 _ (lit< tt) (c .before .pre .1)
 
 returns : tie.Need-returns
-unfolding signedFraction pick
-returns c =
-    let a = c .before .before .args in
-    let f = c .before .before .pre in
-    rw (eq-eqb (a .s) 0 (c .before .if1 .taken)) (search needs ∙ c .difference .ensures ∙ difference-is {b = 0} (below-pow (a .n) 31 (f .2) (omega arith)) (lit< tt) ∙ minus-zero (a .q))
+unfolding pick
+returns c = rw (eq-eqb _ 0 (c .if1 .taken)) (toZ-pos w32 (c .before .pre .0))
 
 returns-2 : tie.Need-returns-2
-unfolding signedFraction pick
-returns-2 c =
-    let a = c .before .before .args in
-    let f = c .before .before .pre in
-    rw (ne-eqb (a .s) 0 (c .before .if1 .left)) (search needs ∙ c .difference2 .ensures ∙ difference-is {a = 0} (lit< tt) (below-pow (a .n) 31 (f .2) (omega arith)) ∙ zero-minus (a .q))
+unfolding pick
+returns-2 c = rw (ne-eqb _ 0 (c .if1 .left)) (minus-is w32 0 _ (lit< tt) (c .before .pre .1) ∙ zero-minus (c .before .args .kept))
 
 pub with-sign-spec : {M : Type 1} → statement M
-with-sign-spec = tie.close (tie.spec difference-requires difference-requires-2 returns returns-2)
+with-sign-spec = tie.close (tie.spec cast-result cast-result-2 sub-result returns returns-2)
