@@ -1,10 +1,12 @@
 -- Each call that is open to a deck, a reader or the lister answers the definition that the demands speak of. A contract that leaves one
 -- answer may yet leave a wrong one: this says which.
 -- Assumes nothing.
-use Prim.Native.Nat.{ℕ, _*_}
+use Prim.Native.Nat.{ℕ, _+_, _*_}
 use mathlib.Core.Path.{_≡_}
 use mathlib.Core.List.{List}
+use lib.Dec.{leb}
 use lib.ListN.{length}
+use lib.Seq.{sets}
 use denote.Ref.{RefT}
 use Rattle.block.specs.Bytes.{packedOf}
 use Rattle.codes.specs.Codes.{rowOf}
@@ -21,7 +23,9 @@ use Rattle.body.specs.Open.{opened}
 use Rattle.stream.specs.Calls.{portion}
 use Rattle.body.specs.Ends.{blockEnd, close}
 use Rattle.framing.specs.Next.{endingOf, nextOf}
-use Rattle.lister.specs.Turn.{turnOf, turnHeader, turnNumbers, turnLine}
+use Rattle.listing.specs.Lines.{lineOf, lastOf}
+use Rattle.listing.specs.Lent.{lineIn, lineEnd, storedIn}
+use Rattle.lister.specs.Calls.{begun, called, madeBy, lastBy}
 use Rattle.deck.specs.Flat.{flatFormat, flatWord}
 use Rattle.deck.specs.Headers.{flatPair, flatHeader, flatSet}
 use Rattle.deck.specs.Places.{flatIndex, flatPlace, flatPart, flatSkew, flatByte, flatTime}
@@ -47,7 +51,12 @@ use Rattle.body.proofs.block_end.Reads as body-block-end
 use Rattle.body.proofs.close.Reads as body-close
 use Rattle.framing.proofs.next.Reads as framing-next
 use Rattle.framing.proofs.close.Reads as framing-close
-use Rattle.lister.proofs.advance.Reads as lister-advance
+use Rattle.listing.proofs.record_line.Reads as listing-record-line
+use Rattle.listing.proofs.last_line.Reads as listing-last-line
+use Rattle.listing.proofs.store.Reads as listing-store
+use Rattle.lister.proofs.start.Reads as lister-start
+use Rattle.lister.proofs.portion.Reads as lister-portion
+use Rattle.lister.proofs.finish.Reads as lister-finish
 use Rattle.deck.proofs.headers.segd_packed.Reads as deck-segd-packed
 use Rattle.deck.proofs.segd_format.Reads as deck-segd-format
 use Rattle.deck.proofs.segd_read_word.Reads as deck-segd-read-word
@@ -100,9 +109,6 @@ fourth a = a .1 .1 .1 .0
 abbrev pub fifth : {A B C D E F : Type 0} → A × (B × (C × (D × (E × F)))) → E
 fifth a = a .1 .1 .1 .1 .0
 
-abbrev sixth : {A B C D E F G : Type 0} → A × (B × (C × (D × (E × (F × G))))) → F
-sixth a = a .1 .1 .1 .1 .1 .0
-
 pub record Bound : Type 0 where
   -- the questions about pairs, words and header blocks
   pub packed : Is block-packed.Post (λ κ a. packedOf (first a))
@@ -150,10 +156,22 @@ pub record Bound : Type 0 where
   pub segd-output : Leaves deck-segd-portion.Post (λ κ e. third e .now) (λ κ a. outputOf (first a) (second a .now) (third a .now))
   pub segd-block-end : Is deck-segd-block-end.Post (λ κ a. flatGave (blockEnd (first a)))
   pub segd-close : Is deck-segd-close.Post (λ κ a. flatClosing (close (first a)))
-  -- the lister's: a step over the image, its ending, and one turn with the three buffers that it leaves
+  -- the image: a step over it, and its ending
   pub next : Is framing-next.Post (λ κ a. nextOf (first a) (second a .now) (third a))
   pub ending : Is framing-close.Post (λ κ a. endingOf (first a))
-  pub advance : Is lister-advance.Post (λ κ a. turnOf (first a) (second a .now) (third a) (fourth a .now) (fifth a .now) (sixth a .now))
-  pub advance-header : Leaves lister-advance.Post (λ κ e. fourth e .now) (λ κ a. turnHeader (first a) (second a .now) (third a) (fourth a .now))
-  pub advance-numbers : Leaves lister-advance.Post (λ κ e. fifth e .now) (λ κ a. turnNumbers (first a) (second a .now) (third a) (fifth a .now))
-  pub advance-line : Leaves lister-advance.Post (λ κ e. sixth e .now) (λ κ a. turnLine (first a) (second a .now) (third a) (sixth a .now))
+  -- a line, the last line, and bytes that are kept: where each ends, and the buffer that it leaves
+  pub record-line : Is listing-record-line.Post (λ κ a. lineEnd (first a .now) (second a) (lineOf (third a) (fourth a)))
+  pub record-line-in : Leaves listing-record-line.Post (λ κ e. first e .now) (λ κ a. lineIn (first a .now) (second a) (lineOf (third a) (fourth a)))
+  pub last-line : Is listing-last-line.Post (λ κ a. lineEnd (first a .now) 0 (lastOf (second a)))
+  pub last-line-in : Leaves listing-last-line.Post (λ κ e. first e .now) (λ κ a. lineIn (first a .now) 0 (lastOf (second a)))
+  pub stores : Is listing-store.Post (λ κ a. leb (second a + length (third a .now)) (length (first a .now)))
+  pub stored : Leaves listing-store.Post (λ κ e. first e .now) (λ κ a. storedIn (first a .now) (second a) (third a .now))
+  -- the lister: its start, a portion with the three buffers that it leaves, the end of the image with the last line
+  pub starts : Is lister-start.Post (λ κ a. begun)
+  pub lists : Is lister-portion.Post (λ κ a. madeBy (called (first a) (second a .now) (third a .now) (fourth a .now) (fifth a .now)))
+  pub lists-header : Leaves lister-portion.Post (λ κ e. third e .now) (λ κ a. called (first a) (second a .now) (third a .now) (fourth a .now) (fifth a .now) .header)
+  pub lists-numbers : Leaves lister-portion.Post (λ κ e. fourth e .now) (λ κ a. called (first a) (second a .now) (third a .now) (fourth a .now) (fifth a .now) .numbers)
+  pub lists-lines : Leaves lister-portion.Post (λ κ e. fifth e .now)
+      (λ κ a. sets (fifth a .now) 0 (called (first a) (second a .now) (third a .now) (fourth a .now) (fifth a .now) .out))
+  pub finishes : Is lister-finish.Post (λ κ a. lineEnd (second a .now) 0 (lastBy (first a)))
+  pub finishes-lines : Leaves lister-finish.Post (λ κ e. second e .now) (λ κ a. lineIn (second a .now) 0 (lastBy (first a)))

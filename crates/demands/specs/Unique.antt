@@ -72,7 +72,9 @@ use Rattle.framing.proofs.next.Reads as framing-next
 use Rattle.listing.proofs.record_line.Reads as listing-record-line
 use Rattle.listing.proofs.last_line.Reads as listing-last-line
 use Rattle.listing.proofs.store.Reads as listing-store
-use Rattle.lister.proofs.advance.Reads as lister-advance
+use Rattle.lister.proofs.start.Reads as lister-start
+use Rattle.lister.proofs.portion.Reads as lister-portion
+use Rattle.lister.proofs.finish.Reads as lister-finish
 use Rattle.deck.proofs.bodies.segd_open.Reads as deck-segd-open
 use Rattle.deck.proofs.bodies.segd_portion.Reads as deck-segd-portion
 use Rattle.deck.proofs.bodies.segd_block_end.Reads as deck-segd-block-end
@@ -174,10 +176,13 @@ pub record Unique : Type 0 where
   pub last-line-content : OneContent listing-last-line.Post (λ κ e. e .0 .now)
   pub store : OneAnswer listing-store.Post
   pub store-content : OneContent listing-store.Post (λ κ e. e .0 .now)
-  pub advance : OneAnswer lister-advance.Post
-  pub advance-header : OneContent lister-advance.Post (λ κ e. e .1 .1 .1 .0 .now)
-  pub advance-numbers : OneContent lister-advance.Post (λ κ e. e .1 .1 .1 .1 .0 .now)
-  pub advance-line : OneContent lister-advance.Post (λ κ e. e .1 .1 .1 .1 .1 .0 .now)
+  pub starts : OneAnswer lister-start.Post
+  pub lists : OneAnswer lister-portion.Post
+  pub lists-header : OneContent lister-portion.Post (λ κ e. e .1 .1 .0 .now)
+  pub lists-numbers : OneContent lister-portion.Post (λ κ e. e .1 .1 .1 .0 .now)
+  pub lists-lines : OneContent lister-portion.Post (λ κ e. e .1 .1 .1 .1 .0 .now)
+  pub finishes : OneAnswer lister-finish.Post
+  pub finishes-lines : OneContent lister-finish.Post (λ κ e. e .1 .0 .now)
   pub segd-open : OneAnswer deck-segd-open.Post
   pub segd-portion : OneAnswer deck-segd-portion.Post
   pub segd-portion-content : OneContent deck-segd-portion.Post (λ κ e. e .1 .1 .0 .now)

@@ -1,14 +1,15 @@
 -- Bytes taken from bytes are bytes.
 -- Assumes nothing.
-use Prim.Native.Nat.{ℕ, zero, suc}
+use Prim.Native.Nat.{ℕ, zero, suc, _≤_, zero-le, suc-le-suc}
 use mathlib.Core.Bool.{Bool, true, false}
 use mathlib.Core.List.{List, [], _∷_, _++_}
+use native.Mathlib.Omega.{arith}
 use lib.ListN.{length, take, drop}
 use Rattle.basis.proofs.Choices.{pick-both}
 use Rattle.framing.specs.Image.{Reading, lengthOf, itemsOf, readingOf}
 use Rattle.framing.specs.Cuts.{joined}
 use Rattle.agree.specs.Calls.{Bytes}
-use Rattle.lister.specs.Turn.{Portions}
+use Rattle.lister.specs.Listed.{Portions}
 
 pub bytes-append : (xs ys : List ℕ) → Bytes xs → Bytes ys → Bytes (xs ++ ys)
 bytes-append [] ys p q = q
@@ -56,3 +57,21 @@ pub items-bytes : (image : List ℕ) → Bytes image → Items (readingOf image 
 unfolding Whole
 items-bytes [] p = tt
 items-bytes (v ∷ rest) p = pick-both Whole _ (items-of (length rest) false rest (p .1)) tt
+
+-- and no more items than bytes
+Few : ℕ → Reading → Type 0
+Few most r = length (r .items) ≤ most
+
+few-of : (most : ℕ) (m : Bool) (bytes : List ℕ) → Few most (itemsOf most m bytes)
+unfolding Few
+few-of zero m bytes = zero-le
+few-of (suc most) m bytes =
+    pick-both (Few (suc most)) _ zero-le
+    (pick-both (Few (suc most)) _
+    (pick-both (λ (r : Reading). suc (length (r .items)) ≤ suc most) m (suc-le-suc zero-le) (suc-le-suc (few-of most true (drop 4 bytes))))
+    (pick-both (Few (suc most)) _ (suc-le-suc (few-of most false (drop (lengthOf bytes) (drop 4 bytes)))) zero-le))
+
+pub items-few : (image : List ℕ) → length (readingOf image .items) ≤ length image
+unfolding Few
+items-few [] = zero-le
+items-few (v ∷ rest) = let h = few-of (length rest) false rest in pick-both (Few (suc (length rest))) _ (omega (arith, h)) zero-le

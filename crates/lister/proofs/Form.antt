@@ -27,9 +27,8 @@ use Rattle.listing.specs.declared.Outcome.the-variants as O
 use Rattle.listing.specs.Lines.{lineOf}
 use Rattle.lister.specs.declared.file.File.{File}
 use Rattle.lister.specs.declared.file.File.the-variants.{Empty, Heading, Large, Refused, Blocks}
-use Rattle.lister.specs.declared.file.AtMark.{AtMark}
-use Rattle.lister.specs.declared.file.AtMark.the-variants.{Nothing, Line}
-use Rattle.lister.specs.Listing.{bodyIn, byHeader, outcomeOf, nextNumber}
+use Rattle.lister.specs.Listing.{bodyIn, byHeader, outcomeOf}
+use Rattle.lister.specs.Turn.{nextNumber, countBy, textBy}
 use Rattle.lister.specs.File.{partOf, itemEnd, headedBy, closedOf, saidOf}
 use Rattle.scan.proofs.Fold.{after-append}
 use Rattle.stream.proofs.Cuts.{portion-state}
@@ -108,14 +107,6 @@ end-form header (h ∷ blocks) x xs kept = go (leb (length h) (length header)) (
     go false d = refl
 
 -- ---- what is said at the mark
-abbrev pub countBy : AtMark → ℕ → ℕ
-countBy Nothing count = count
-countBy (Line o) count = nextNumber count
-
-abbrev pub textBy : AtMark → ℕ → List ℕ
-textBy Nothing count = []
-textBy (Line o) count = lineOf (nextNumber count) o
-
 pub said-count : (cap : ℕ) (h : List ℕ) (blocks : List (List ℕ)) (count : ℕ) → countBy (saidOf (fileAt cap (h ∷ blocks) [])) count ≡ nextNumber count
 unfolding pick
 said-count cap h blocks count = go (leb (length h) cap) (headerAnswer h)

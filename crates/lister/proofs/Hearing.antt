@@ -5,28 +5,24 @@ use mathlib.Core.Path.{_≡_, refl, ap, _∙_}
 use mathlib.Core.Bool.{Bool, true, false}
 use mathlib.Core.List.{List, [], _∷_, _++_, map, append-nil}
 use native.Mathlib.Omega.{arith}
-use borrow.Author.Tests.{le-leb, le-ltb}
+use borrow.Author.Tests.{le-leb}
 use lib.Dec.{leb}
 use lib.IntN.{ℤ}
-use lib.ListN.{length, take, drop, length-append, length-drop}
-use lib.Seq.{sets, sets-eq, take-at, length-sets, take-append-seam}
+use lib.ListN.{length, take, drop, length-append}
+use lib.Seq.{sets, sets-eq, take-at, length-sets}
 use Rattle.basis.specs.Choice.{pick}
 use Rattle.framing.specs.declared.Met.{Met}
 use Rattle.framing.specs.declared.Met.the-variants.{Framing, Part, Whole, Mark}
 use Rattle.framing.specs.Cuts.{byte, close, mark, tells}
-use Rattle.listing.specs.Lines.{lineOf}
 use Rattle.listing.specs.Lent.{storedIn}
 use Rattle.lister.specs.declared.file.File.{File}
 use Rattle.lister.specs.declared.file.File.the-variants.{Empty, Heading, Large, Refused, Blocks}
-use Rattle.lister.specs.declared.file.AtMark.{AtMark}
-use Rattle.lister.specs.declared.file.AtMark.the-variants.{Nothing, Line}
 use Rattle.lister.specs.File.{partOf, bufferAfter, numbersAfter, itemEnd, saidOf}
 use Rattle.agree.specs.Calls.{Bytes}
-use Rattle.lister.specs.Listing.{nextNumber}
-use Rattle.lister.specs.Turn.{marked, markedLine, heardOf, heardHeader, heardNumbers, heardLine}
+use Rattle.lister.specs.Turn.{saidAt, countBy, textBy, heardFile, heardHeader, heardNumbers}
 use Rattle.lister.proofs.Reader.{numbers-length}
 use Rattle.lister.proofs.Bytes.{Items, bytes-append, items-append}
-use Rattle.lister.proofs.Form.{fileAt, countBy, textBy, part-form, end-form}
+use Rattle.lister.proofs.Form.{fileAt, part-form, end-form}
 use Rattle.lister.proofs.Telling.{Sum, tell, tellAll, tell-append, tell-bytes, with-more}
 
 -- the lister has what was told; the header's buffer keeps the bytes of a header item that fits
@@ -120,68 +116,50 @@ hear-whole u f count header numbers out y ys room ok r = go (u .have) refl
     go [] e = end y ys (ap (λ (l : List ℕ). l ++ (y ∷ ys)) e)
     go (x ∷ xs) e = end x (xs ++ (y ∷ ys)) (ap (λ (l : List ℕ). l ++ (y ∷ ys)) e)
 
--- with room in the line's buffer, and the lengths of the other two
-pub record Good (cap most : ℕ) (u : Sum) (f : File) (count : ℕ) (header : List ℕ) (numbers : List ℤ) (line out : List ℕ) : Type 0 where
+-- with the lengths of the two buffers
+pub record Good (cap most : ℕ) (u : Sum) (f : File) (count : ℕ) (header : List ℕ) (numbers : List ℤ) (out : List ℕ) : Type 0 where
   pub rel : Rel u f count header out
-  pub room : 128 ≤ length line
   pub size : length header ≡ cap
-  pub half : most ≡ length numbers / 2
+  pub half : most ≤ length numbers / 2
 
-over-room : (text line : List ℕ) → 128 ≤ length line → 128 ≤ length (text ++ drop (length text) line)
-over-room text line h = simp (length-append, length-drop) (omega arith)
+hear-mark : (u : Sum) (f : File) (count : ℕ) (header out : List ℕ) → Rel u f count header out
+    → Rel (tell (length header) u mark) Empty (countBy (saidOf f) count) header (out ++ textBy (saidOf f) count)
+hear-mark u f count header out r =
+    rw (← r .file-is, ← r .count-is, ← r .out-is)
+    (record { file-is = refl; count-is = refl; out-is = refl; whole = tt; some = tt; kept = λ n h. refl })
 
-hear-mark : (most : ℕ) (u : Sum) (f : File) (count : ℕ) (header : List ℕ) (numbers : List ℤ) (line out : List ℕ) → Good (length header) most u f count header numbers line out
-    → Good (length header) most (tell (length header) u mark) ((marked (saidOf f) count line) .file) ((marked (saidOf f) count line) .count) header numbers (markedLine (saidOf f) count line)
-    (out ++ take ((marked (saidOf f) count line) .length) (markedLine (saidOf f) count line))
-unfolding pick
-hear-mark most u f count header numbers line out g =
-    rw (← g .rel .file-is, ← g .rel .count-is, ← g .rel .out-is) (go (saidOf f))
-  where
-    go : (s : AtMark)
-        → Good (length header) most (record { items = []; have = []; count = countBy s count; out = out ++ textBy s count })
-        ((marked s count line) .file) ((marked s count line) .count) header numbers (markedLine s count line)
-        (out ++ take ((marked s count line) .length) (markedLine s count line))
-    go Nothing = record {
-      rel = record { file-is = refl; count-is = refl; out-is = refl; whole = tt; some = tt; kept = λ n h. refl };
-      room = g .room;
-      size = refl;
-      half = g .half;
-    }
-    go (Line o) = rw (le-ltb (length line) 128 (g .room))
-        (record {
-          rel = record { file-is = refl; count-is = refl; out-is = ap (λ (l : List ℕ). out ++ l) (take-append-seam (lineOf (nextNumber count) o) (drop (length (lineOf (nextNumber count) o)) line)); whole = tt; some = tt; kept = λ n h. refl };
-          room = over-room (lineOf (nextNumber count) o) line (g .room);
-          size = refl;
-          half = g .half;
-        })
-
-pub quiet : {u : Sum} {f : File} {count : ℕ} {header : List ℕ} (out : List ℕ) → Rel u f count header out → Rel u f count header (out ++ [])
+quiet : {u : Sum} {f : File} {count : ℕ} {header : List ℕ} (out : List ℕ) → Rel u f count header out → Rel u f count header (out ++ [])
 quiet {u} {f} {count} {header} out r = rw (append-nil out) r
 
+-- an answer of `next` that passed bytes of an item passed one at least
+abbrev pub Some : Met → List ℕ → Type 0
+Some Framing p = Unit {0}
+Some Part p = 0 < length p
+Some Whole p = 0 < length p
+Some Mark p = Unit {0}
+
 -- whatever an answer of `next` brings
-pub hear-any : (most : ℕ) (u : Sum) (f : File) (count : ℕ) (header : List ℕ) (numbers : List ℤ) (line out : List ℕ) (m : Met) (p : List ℕ) → 0 < length p → length p ≤ most → Bytes p
-    → Good (length header) most u f count header numbers line out
-    → Good (length header) most (tellAll (length header) u (tells m p)) ((heardOf f count m p header numbers line) .file) ((heardOf f count m p header numbers line) .count)
-    (heardHeader f m p header) (heardNumbers f m p numbers) (heardLine f count m line) (out ++ take ((heardOf f count m p header numbers line) .length) (heardLine f count m line))
-hear-any most u f count header numbers line out Framing p h k ok g = record { rel = quiet out (g .rel); room = g .room; size = refl; half = g .half }
-hear-any most u f count header numbers line out Part [] h k ok g = absurd (omega arith)
-hear-any most u f count header numbers line out Part (y ∷ ys) h k ok g =
+pub hear-any : (most : ℕ) (u : Sum) (f : File) (count : ℕ) (header : List ℕ) (numbers : List ℤ) (out : List ℕ) (m : Met) (p : List ℕ) → Some m p → length p ≤ most → Bytes p
+    → Good (length header) most u f count header numbers out
+    → Good (length header) most (tellAll (length header) u (tells m p)) (heardFile f m p header numbers) (countBy (saidAt f m) count)
+    (heardHeader f m p header) (heardNumbers f m p numbers) (out ++ textBy (saidAt f m) count)
+hear-any most u f count header numbers out Framing p h k ok g = record { rel = quiet out (g .rel); size = refl; half = g .half }
+hear-any most u f count header numbers out Part [] h k ok g = absurd (omega arith)
+hear-any most u f count header numbers out Part (y ∷ ys) h k ok g =
     rw (tell-bytes (length header) u (y ∷ ys))
     (record {
-      rel = quiet out (hear-part u f count header numbers out y ys (rw (g .half) at k) ok (g .rel));
-      room = g .room;
+      rel = quiet out (hear-part u f count header numbers out y ys (omega (arith, k, g .half)) ok (g .rel));
       size = buffer-length f (y ∷ ys) header;
       half = rw (numbers-kept f (y ∷ ys) numbers) (g .half);
     })
-hear-any most u f count header numbers line out Whole [] h k ok g = absurd (omega arith)
-hear-any most u f count header numbers line out Whole (y ∷ ys) h k ok g =
+hear-any most u f count header numbers out Whole [] h k ok g = absurd (omega arith)
+hear-any most u f count header numbers out Whole (y ∷ ys) h k ok g =
     let e : tellAll (length header) u (map byte (y ∷ ys) ++ (close ∷ [])) ≡ tell (length header) (with-more u (y ∷ ys)) close =
     tell-append (length header) u (map byte (y ∷ ys)) (close ∷ []) ∙ ap (λ (v : Sum). tell (length header) v close) (tell-bytes (length header) u (y ∷ ys)) in
     rw e
     (record {
-      rel = quiet out (hear-whole u f count header numbers out y ys (rw (g .half) at k) ok (g .rel));
-      room = g .room;
+      rel = quiet out (hear-whole u f count header numbers out y ys (omega (arith, k, g .half)) ok (g .rel));
       size = buffer-length f (y ∷ ys) header;
       half = rw (numbers-kept f (y ∷ ys) numbers) (g .half);
     })
-hear-any most u f count header numbers line out Mark p h k ok g = hear-mark most u f count header numbers line out g
+hear-any most u f count header numbers out Mark p h k ok g = record { rel = hear-mark u f count header out (g .rel); size = refl; half = g .half }

@@ -1,4 +1,7 @@
 pub mod Onward
+pub mod Room
+pub mod Said
+pub mod Walking
 pub mod Bytes
 pub mod Reader
 pub mod Places

@@ -1,13 +1,17 @@
 -- The lister as a listener: what it has after each byte, item end and mark that is told of an image.
 -- Assumes nothing.
-use Prim.Native.Nat.{ℕ}
+use Prim.Native.Nat.{ℕ, _+_, _^_, _<_}
 use mathlib.Core.Path.{_≡_, refl, sym, ap, _∙_}
 use mathlib.Core.List.{List, [], _∷_, _++_, map, append-assoc, append-nil}
+use native.Mathlib.Nat.{mod-eq-of-lt}
+use native.Mathlib.Omega.{arith}
+use lib.ListN.{length}
 use Rattle.framing.specs.Cuts.{Event, byte, close, mark, itemsTold, joined}
 use Rattle.listing.specs.Lines.{lineOf}
 use Rattle.lister.specs.File.{saidOf}
-use Rattle.lister.specs.Listing.{onto, filesOf, linesOf, outcomeOf, nextNumber}
-use Rattle.lister.proofs.Form.{fileAt, countBy, textBy, said-count, said-text}
+use Rattle.lister.specs.Listing.{onto, filesOf, linesOf, outcomeOf}
+use Rattle.lister.specs.Turn.{nextNumber, countBy, textBy}
+use Rattle.lister.proofs.Form.{fileAt, said-count, said-text}
 use Rattle.lister.proofs.Bytes.{Items, items-append}
 
 -- the items of the file so far, the bytes of the item that is open, the files with a line, and what was printed
@@ -60,26 +64,30 @@ before-onto : (now : List (List ℕ)) (item : List ℕ) (files : List (List (Lis
 before-onto now item [] = refl
 before-onto now item (f ∷ fs) = ap (λ (l : List (List ℕ)). l ∷ fs) (append-assoc now (item ∷ []) f)
 
+-- numbers of 64 bits hold as many files as there are
+next-number : (count : ℕ) → count + 1 < 2 ^ 64 → nextNumber count ≡ count + 1
+next-number count h = mod-eq-of-lt h
+
 -- all items told: the lines of their files
-tell-files : (cap count : ℕ) (now : List (List ℕ)) (out : List ℕ) (items : List (List ℕ)) → Items now → Items items
+tell-files : (cap count : ℕ) (now : List (List ℕ)) (out : List ℕ) (items : List (List ℕ)) → Items now → Items items → count + length items < 2 ^ 64
     → (tellAll cap (sum now count out) (itemsTold items)) .out ≡ out ++ joined (linesOf cap count (before now (filesOf items)))
-tell-files cap count now out [] p q = sym (append-nil out)
-tell-files cap count [] out ([] ∷ items) p q =
-    tell-files cap count [] (out ++ []) items tt (q .1)
+tell-files cap count now out [] p q few = sym (append-nil out)
+tell-files cap count [] out ([] ∷ items) p q few =
+    tell-files cap count [] (out ++ []) items tt (q .1) (omega (arith, few))
     ∙ ap (λ (l : List ℕ). l ++ joined (linesOf cap count (before [] (filesOf items)))) (append-nil out)
     ∙ ap (λ (fs : List (List (List ℕ))). out ++ joined (linesOf cap count fs)) (before-none (filesOf items))
-tell-files cap count (h ∷ blocks) out ([] ∷ items) p q =
-    rw (said-count cap h blocks count, said-text cap h blocks count p, append-nil blocks)
-    (tell-files cap (nextNumber count) [] (out ++ lineOf (nextNumber count) (outcomeOf cap h blocks)) items tt (q .1)
-    ∙ ap (λ (fs : List (List (List ℕ))). (out ++ lineOf (nextNumber count) (outcomeOf cap h blocks)) ++ joined (linesOf cap (nextNumber count) fs)) (before-none (filesOf items))
+tell-files cap count (h ∷ blocks) out ([] ∷ items) p q few =
+    rw (said-count cap h blocks count, said-text cap h blocks count p, append-nil blocks, next-number count (omega (arith, few)))
+    (tell-files cap (count + 1) [] (out ++ lineOf (count + 1) (outcomeOf cap h blocks)) items tt (q .1) (omega (arith, few))
+    ∙ ap (λ (fs : List (List (List ℕ))). (out ++ lineOf (count + 1) (outcomeOf cap h blocks)) ++ joined (linesOf cap (count + 1) fs)) (before-none (filesOf items))
     ∙ append-assoc out _ _)
-tell-files cap count now out ((x ∷ xs) ∷ items) p q =
+tell-files cap count now out ((x ∷ xs) ∷ items) p q few =
     let e : tellAll cap (sum now count out) (map byte (x ∷ xs) ++ (close ∷ [])) ≡ sum (now ++ ((x ∷ xs) ∷ [])) count out =
     tell-append cap (sum now count out) (map byte (x ∷ xs)) (close ∷ []) ∙ ap (λ (v : Sum). tell cap v close) (tell-bytes cap (sum now count out) (x ∷ xs)) in
     ap (λ (v : Sum). v .out) (tell-append cap (sum now count out) (map byte (x ∷ xs) ++ (close ∷ [])) (itemsTold items))
     ∙ ap (λ (v : Sum). (tellAll cap v (itemsTold items)) .out) e
-    ∙ tell-files cap count (now ++ ((x ∷ xs) ∷ [])) out items (items-append now ((x ∷ xs) ∷ []) p (q .0, tt)) (q .1)
+    ∙ tell-files cap count (now ++ ((x ∷ xs) ∷ [])) out items (items-append now ((x ∷ xs) ∷ []) p (q .0, tt)) (q .1) (omega (arith, few))
     ∙ ap (λ (fs : List (List (List ℕ))). out ++ joined (linesOf cap count fs)) (before-onto now (x ∷ xs) (filesOf items))
 
-pub tell-all : (cap : ℕ) (items : List (List ℕ)) → Items items → (tellAll cap (sum [] 0 []) (itemsTold items)) .out ≡ joined (linesOf cap 0 (filesOf items))
-tell-all cap items q = tell-files cap 0 [] [] items tt q ∙ ap (λ (fs : List (List (List ℕ))). joined (linesOf cap 0 fs)) (before-none (filesOf items))
+pub tell-all : (cap : ℕ) (items : List (List ℕ)) → Items items → length items < 2 ^ 64 → (tellAll cap (sum [] 0 []) (itemsTold items)) .out ≡ joined (linesOf cap 0 (filesOf items))
+tell-all cap items q few = tell-files cap 0 [] [] items tt q (omega (arith, few)) ∙ ap (λ (fs : List (List (List ℕ))). joined (linesOf cap 0 fs)) (before-none (filesOf items))

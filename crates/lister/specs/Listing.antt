@@ -1,6 +1,6 @@
 -- What the lister prints of a whole image, by its items: no state, portion or buffer.
 -- Assumes nothing.
-use Prim.Native.Nat.{ℕ, _+_, _%_, _^_}
+use Prim.Native.Nat.{ℕ, _+_}
 use mathlib.Core.List.{List, [], _∷_, _++_}
 use lib.Dec.{leb}
 use lib.ListN.{length}
@@ -52,16 +52,12 @@ headerRoom = 65536
 abbrev pub outcomeOf : ℕ → List ℕ → List (List ℕ) → Outcome
 outcomeOf cap header blocks = pick (leb (length header) cap) (byHeader (headerAnswer header) header blocks) (O.Refused R.Large 0)
 
--- the number of the file after `count` files: numbers are kept in 64 bits
-abbrev pub nextNumber : ℕ → ℕ
-nextNumber count = (count + 1) % 2 ^ 64
-
 -- a line for each file after the first `count`; "Files without an item are not numbered"
 abbrev pub linesOf : ℕ → ℕ → List (List (List ℕ)) → List (List ℕ)
 linesOf cap count [] = []
 linesOf cap count ([] ∷ files) = linesOf cap count files
 linesOf cap count ((header ∷ blocks) ∷ files) =
-    lineOf (nextNumber count) (outcomeOf cap header blocks) ∷ linesOf cap (nextNumber count) files
+    lineOf (count + 1) (outcomeOf cap header blocks) ∷ linesOf cap (count + 1) files
 
 -- all that is printed of an image
 abbrev pub printedOf : ℕ → List ℕ → List ℕ

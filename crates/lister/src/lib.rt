@@ -3,12 +3,17 @@ mod file;
 
 pub use file::File;
 ghost use mathlib.Core.Path.{_≡_};
-ghost use Prim.Native.Nat.{_/_, _≤_};
+ghost use mathlib.Core.Bool.{true};
+ghost use Prim.Native.Nat.{_<_};
 ghost use lib.ListN.{length};
+ghost use lib.Seq.{sets};
+ghost use Rattle.io.specs.Counts.{Counts};
+ghost use Rattle.listing.specs.Lent.{lineIn, lineEnd};
+ghost use Rattle.lister.specs.declared.file.File.the-variants.{Empty};
 ghost use Rattle.lister.specs.File.{saidOf};
-ghost use Rattle.lister.specs.Listing.{headerRoom};
-ghost use Rattle.listing.specs.Lent.{lineRoom};
-ghost use Rattle.lister.specs.Turn.{marked, markedLine, heardOf, heardHeader, heardNumbers, heardLine, turnOf, turnHeader, turnNumbers, turnLine, walked};
+ghost use Rattle.lister.specs.Turn.{textBy, saidAt, heardBy, heardOf, heardHeader, heardNumbers, turnOf, turnHeader, turnNumbers, turnText, walked};
+ghost use Rattle.lister.specs.Calls.{begun, roomy, called, madeBy, lastBy};
+ghost use Rattle.lister.specs.Input.{arrivalOf};
 use file::AtMark;
 use file::item_end;
 use file::outcome;
@@ -18,11 +23,12 @@ use framing::Met;
 use libc::EINTR;
 use libc::STDOUT_FILENO;
 
-// The file that stands after an answer of `framing::next` was heard, how many files have a line, and how long a new line is.
+// The file that stands after an answer of `framing::next` was heard, how many files have a line, and
+// where the lines end in their buffer.
 struct Heard {
     file: File,
     count: u64,
-    length: usize,
+    end: usize,
 }
 
 // How far a reel has been read: the framing, the present file, and how many files have a line.
@@ -32,31 +38,44 @@ pub struct Progress {
     pub count: u64,
 }
 
-// How far the reel has been read after a step, the place in the portion that it came to, and how long a new line is.
-pub struct Turn {
+// How far the reel has been read after a step, the place in the portion that it came to, and where
+// the lines end in their buffer.
+struct Turn {
+    progress: Progress,
+    to: usize,
+    end: usize,
+}
+
+// How far the reel has been read after a portion, and how many bytes of lines it made.
+pub struct Made {
     pub progress: Progress,
-    pub to: usize,
     pub length: usize,
 }
 
+// What a read brought: whether the input is over, and how many bytes.
+struct Arrival {
+    over: bool,
+    bytes: usize,
+}
+
 // A mark: the line of a file that has an item.
-fn mark(f: File, count: u64, line: &mut [u8]) -> Heard
-    ensures { λ r. ⌜ (r ≡ marked (saidOf f) count (now (line .entry))) × (now (line .exit) ≡ markedLine (saidOf f) count (now (line .entry))) ⌝ }
+fn mark(f: File, count: u64, lines: &mut [u8], end: usize) -> Heard
+    ensures { λ r. ⌜ (r ≡ heardBy Empty (saidOf f) count (now (lines .entry)) end) × (now (lines .exit) ≡ lineIn (now (lines .entry)) end (textBy (saidOf f) count)) ⌝ }
 {
     let s = outcome(f);
     match s {
         AtMark::Nothing => Heard {
             file: File::Empty,
             count,
-            length: 0,
+            end,
         },
         AtMark::Line(outcome) => {
             let next = std::num::wrapping_add_u64(count, 1);
-            let length = listing::record_line(line, next, outcome);
+            let to = listing::record_line(lines, end, next, outcome);
             Heard {
                 file: File::Empty,
                 count: next,
-                length,
+                end: to,
             }
         }
     }
@@ -70,22 +89,23 @@ fn hear(
     bytes: &[u8],
     header: &mut [u8],
     numbers: &mut [i32],
-    line: &mut [u8],
+    lines: &mut [u8],
+    end: usize,
 ) -> Heard
-    ensures { λ r. ⌜ (r ≡ heardOf f count met (now (bytes .entry)) (now (header .entry)) (now (numbers .entry)) (now (line .entry))) × (now (header .exit) ≡ heardHeader f met (now (bytes .entry)) (now (header .entry))) × (now (numbers .exit) ≡ heardNumbers f met (now (bytes .entry)) (now (numbers .entry))) × (now (line .exit) ≡ heardLine f count met (now (line .entry))) ⌝ }
+    ensures { λ r. ⌜ (r ≡ heardOf f count met (now (bytes .entry)) (now (header .entry)) (now (numbers .entry)) (now (lines .entry)) end) × (now (header .exit) ≡ heardHeader f met (now (bytes .entry)) (now (header .entry))) × (now (numbers .exit) ≡ heardNumbers f met (now (bytes .entry)) (now (numbers .entry))) × (now (lines .exit) ≡ lineIn (now (lines .entry)) end (textBy (saidAt f met) count)) ⌝ }
 {
     match met {
         Met::Framing => Heard {
             file: f,
             count,
-            length: 0,
+            end,
         },
         Met::Part => {
             let next = part(f, bytes, header, numbers);
             Heard {
                 file: next,
                 count,
-                length: 0,
+                end,
             }
         }
         Met::Whole => {
@@ -94,38 +114,41 @@ fn hear(
             Heard {
                 file: done,
                 count,
-                length: 0,
+                end,
             }
         }
-        Met::Mark => mark(f, count, line),
+        Met::Mark => mark(f, count, lines, end),
     }
 }
 
-// One step over a portion of an image, from place at on. The caller lends room for a header item, for
-// the numbers of a portion's samples, and for a line.
-pub fn advance(
+// One step over a portion of an image, from place at on; a new line goes where the others end.
+fn advance(
     t: Progress,
     bytes: &[u8],
     at: usize,
     header: &mut [u8],
     numbers: &mut [i32],
-    line: &mut [u8],
+    lines: &mut [u8],
+    end: usize,
 ) -> Turn
-    ensures { λ r. ⌜ (r ≡ turnOf t (now (bytes .entry)) at (now (header .entry)) (now (numbers .entry)) (now (line .entry))) × (now (header .exit) ≡ turnHeader t (now (bytes .entry)) at (now (header .entry))) × (now (numbers .exit) ≡ turnNumbers t (now (bytes .entry)) at (now (numbers .entry))) × (now (line .exit) ≡ turnLine t (now (bytes .entry)) at (now (line .entry))) ⌝ }
+    requires { ⌜ at < length (now bytes) ⌝ }
+    ensures { λ r. ⌜ (r ≡ turnOf t (now (bytes .entry)) at (now (header .entry)) (now (numbers .entry)) (now (lines .entry)) end) × (now (header .exit) ≡ turnHeader t (now (bytes .entry)) at (now (header .entry))) × (now (numbers .exit) ≡ turnNumbers t (now (bytes .entry)) at (now (numbers .entry))) × (now (lines .exit) ≡ lineIn (now (lines .entry)) end (turnText t (now (bytes .entry)) at)) ⌝ }
 {
-    if bytes.len() <= at {
-        return Turn {
-            progress: t,
-            to: at,
-            length: 0,
-        };
-    }
     let frame = t.frame;
     let s = framing::next(frame, bytes, at);
     let to = s.to;
     let met = s.met;
     let file = t.file;
-    let h = hear(file, t.count, met, &bytes[at..to], header, numbers, line);
+    let h = hear(
+        file,
+        t.count,
+        met,
+        &bytes[at..to],
+        header,
+        numbers,
+        lines,
+        end,
+    );
     let frame = s.frame;
     let file = h.file;
     Turn {
@@ -135,79 +158,125 @@ pub fn advance(
             count: h.count,
         },
         to,
-        length: h.length,
+        end: h.end,
     }
 }
 
-fn print(line: &[u8], n: usize) {
-    if n <= line.len() {
-        io::write_all(STDOUT_FILENO, &line[..n]);
-    }
-}
-
-// All of a portion, each line printed as it comes. The numbers' buffer has room for every sample
-// that the portion may complete, so that ROOM cannot arise. The buffers are those of `Listed`.
+// All of a portion, its lines one after another at the start of their buffer. The buffers are those of
+// `Listed`.
 fn walk(
     start: Progress,
     bytes: &[u8],
     header: &mut [u8],
     numbers: &mut [i32],
-    line: &mut [u8],
-) -> Progress
-    requires { ⌜ (length (now bytes) ≤ length (now numbers) / 2) × (length (now header) ≡ headerRoom) × (lineRoom ≤ length (now line)) ⌝ }
-    ensures { λ r. ⌜ (r ≡ walked start (now (bytes .entry)) (now (header .entry)) (now (numbers .entry)) (now (line .entry)) .progress) × (now (header .exit) ≡ walked start (now (bytes .entry)) (now (header .entry)) (now (numbers .entry)) (now (line .entry)) .header) × (now (numbers .exit) ≡ walked start (now (bytes .entry)) (now (header .entry)) (now (numbers .entry)) (now (line .entry)) .numbers) × (now (line .exit) ≡ walked start (now (bytes .entry)) (now (header .entry)) (now (numbers .entry)) (now (line .entry)) .line) ⌝ }
+    lines: &mut [u8],
+) -> Made
+    requires { ⌜ roomy (length (now bytes)) (now header) (now numbers) (now lines) ≡ true ⌝ }
+    ensures { λ r. ⌜ (r ≡ madeBy (walked start (now (bytes .entry)) (now (header .entry)) (now (numbers .entry)))) × (now (header .exit) ≡ walked start (now (bytes .entry)) (now (header .entry)) (now (numbers .entry)) .header) × (now (numbers .exit) ≡ walked start (now (bytes .entry)) (now (header .entry)) (now (numbers .entry)) .numbers) × (now (lines .exit) ≡ sets (now (lines .entry)) 0 (walked start (now (bytes .entry)) (now (header .entry)) (now (numbers .entry)) .out)) ⌝ }
 {
     let mut progress = start;
     let mut at: usize = 0;
+    let mut end: usize = 0;
     while at < bytes.len() {
-        let r = advance(progress, bytes, at, header, numbers, line);
+        let r = advance(progress, bytes, at, header, numbers, lines, end);
         let next = r.progress;
         progress = next;
         at = r.to;
-        print(line, r.length);
+        end = r.end;
     }
-    progress
+    Made {
+        progress,
+        length: end,
+    }
 }
 
-// Whether a read that answered got was the last: an interrupted one is tried again, and any other
-// that failed is the end of the input.
-fn over(got: isize) -> bool {
-    if got > 0 {
-        return false;
-    }
-    if got == 0 {
-        return true;
-    }
-    os::errno() != EINTR
+// Whether the buffers that are lent hold what a portion needs.
+fn has_room(bytes: &[u8], header: &[u8], numbers: &[i32], lines: &[u8]) -> bool
+    ensures { λ r. ⌜ r ≡ roomy (length (now (bytes .entry))) (now (header .entry)) (now (numbers .entry)) (now (lines .entry)) ⌝ }
+{
+    let n = bytes.len();
+    (header.len() == 65536) & (n <= numbers.len() / 2) & (n / 9 < lines.len() / 128)
 }
 
-fn finish(frame: Frame, line: &mut [u8]) {
-    let n = listing::last_line(line, framing::close(frame));
-    print(line, n);
-}
-
-// Lists the reel image that a descriptor holds. A proved loop has to end, so the reads are counted
-// down, from a number that no run uses up.
-pub fn list(fd: i32) {
-    let mut buf = io::large_buffer();
-    let mut header = io::large_buffer();
-    let mut numbers = [0i32; 131072];
-    let mut line = [0u8; 128];
-    let mut progress = Progress {
+// How far a reel has been read before its first byte.
+pub fn start() -> Progress
+    ensures { λ r. ⌜ r ≡ begun ⌝ }
+{
+    Progress {
         frame: Frame::Start,
         file: File::Empty,
         count: 0,
-    };
+    }
+}
+
+// A portion of an image: its lines stand at the start of lines. The caller lends 65,536 bytes for a
+// header item, two numbers for each byte, and 128 bytes for each nine bytes and for one line more; where
+// it does not, nothing moves.
+pub fn portion(
+    t: Progress,
+    bytes: &[u8],
+    header: &mut [u8],
+    numbers: &mut [i32],
+    lines: &mut [u8],
+) -> Made
+    ensures { λ r. ⌜ (r ≡ madeBy (called t (now (bytes .entry)) (now (header .entry)) (now (numbers .entry)) (now (lines .entry)))) × (now (header .exit) ≡ called t (now (bytes .entry)) (now (header .entry)) (now (numbers .entry)) (now (lines .entry)) .header) × (now (numbers .exit) ≡ called t (now (bytes .entry)) (now (header .entry)) (now (numbers .entry)) (now (lines .entry)) .numbers) × (now (lines .exit) ≡ sets (now (lines .entry)) 0 (called t (now (bytes .entry)) (now (header .entry)) (now (numbers .entry)) (now (lines .entry)) .out)) ⌝ }
+{
+    if has_room(bytes, header, numbers, lines) {
+        return walk(t, bytes, header, numbers, lines);
+    }
+    Made {
+        progress: t,
+        length: 0,
+    }
+}
+
+// The end of an image: the last line stands at the start of lines, and its length is answered.
+pub fn finish(t: Progress, lines: &mut [u8]) -> usize
+    ensures { λ r. ⌜ (r ≡ lineEnd (now (lines .entry)) 0 (lastBy t)) × (now (lines .exit) ≡ lineIn (now (lines .entry)) 0 (lastBy t)) ⌝ }
+{
+    let frame = t.frame;
+    listing::last_line(lines, framing::close(frame))
+}
+
+// What a read brought that answered got, with the error's number after it.
+fn arrived(got: isize, error: i32, buf: &[u8]) -> Arrival
+    ensures { λ r. ⌜ (r ≡ arrivalOf got error (length (now (buf .entry)))) × Counts (r .bytes) (now (buf .entry)) ⌝ }
+{
+    let bytes = io::count(got, buf);
+    if got > 0 {
+        return Arrival { over: false, bytes };
+    }
+    if got == 0 {
+        return Arrival { over: true, bytes };
+    }
+    Arrival {
+        over: error != EINTR,
+        bytes,
+    }
+}
+
+// Lists the reel image that a descriptor holds: reads it and writes its lines, a portion at a time. A
+// proved loop has to end, so the reads are counted down, from a number that no run uses up.
+pub fn list(fd: i32) {
+    let mut image = [0u8; 32768];
+    let mut header = io::large_buffer();
+    let mut numbers = [0i32; 65536];
+    let mut lines = [0u8; 466048];
+    let mut progress = start();
     let mut turns = u64::MAX;
     while turns > 0 {
-        let got = libc::read(fd, &mut buf);
-        if over(got) {
+        let got = libc::read(fd, &mut image);
+        let a = arrived(got, os::errno(), &image);
+        if a.over {
             break;
         }
-        let n = io::count(got, &buf);
-        progress = walk(progress, &buf[..n], &mut header, &mut numbers, &mut line);
+        let n = a.bytes;
+        let made = walk(progress, &image[..n], &mut header, &mut numbers, &mut lines);
+        let length = made.length;
+        io::write_all(STDOUT_FILENO, &lines[..length]);
+        progress = made.progress;
         turns -= 1;
     }
-    let frame = progress.frame;
-    finish(frame, &mut line);
+    let length = finish(progress, &mut lines);
+    io::write_all(STDOUT_FILENO, &lines[..length]);
 }

@@ -1,13 +1,13 @@
 -- Pieces of text put one after another into a buffer.
 -- Assumes nothing.
-use Prim.Native.Nat.{ℕ, suc, _+_, _≤_, _<_}
+use Prim.Native.Nat.{ℕ, suc, _+_, _<_}
 use mathlib.Core.Path.{_≡_, ap, _∙_}
 use mathlib.Core.List.{List, [], _∷_, _++_}
-use native.Mathlib.Nat.{add-zero, zero-add}
+use native.Mathlib.Nat.{add-zero}
 use native.Mathlib.Omega.{arith}
 use native.Mathlib.Numerals.{add-one}
-use lib.ListN.{length, take, drop, getD, set, length-append}
-use lib.Seq.{sets, sets-eq, take-suc, length-take-le}
+use lib.ListN.{length, take, getD, set, length-append}
+use lib.Seq.{sets, take-suc, length-take-le}
 
 pub sets-append : (l : List ℕ) (i : ℕ) (xs ys : List ℕ) → sets l i (xs ++ ys) ≡ sets (sets l i xs) (i + length xs) ys
 sets-append l i [] ys = rw (add-zero i)
@@ -40,7 +40,3 @@ pub four : (old xs ys zs ws : List ℕ) (at : ℕ) {o₁ o₂ o₃ o₄ : List �
 four old xs ys zs ws at {o₁} {o₂} {o₃} {o₄} {t₁} a b c d e f g h =
     let later = three o₁ ys zs ws t₁ c d e f g h in
     two old xs (ys ++ (zs ++ ws)) at a b (later .0) (later .1)
-
--- a text that stands at the start
-pub over : (text old : List ℕ) → length text ≤ length old → sets old 0 text ≡ text ++ drop (length text) old
-over text old h = sets-eq text old 0 (omega arith) ∙ rw zero-add

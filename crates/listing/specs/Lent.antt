@@ -1,9 +1,9 @@
 -- What a lent buffer holds after a line or some bytes were put into it.
 -- Assumes nothing.
 use Prim.Native.Nat.{ℕ, _+_}
-use mathlib.Core.List.{List, _++_}
+use mathlib.Core.List.{List}
 use lib.Dec.{ltb, leb}
-use lib.ListN.{length, drop}
+use lib.ListN.{length}
 use lib.Seq.{sets}
 use Rattle.basis.specs.Choice.{pick}
 
@@ -11,13 +11,13 @@ use Rattle.basis.specs.Choice.{pick}
 abbrev pub lineRoom : ℕ
 lineRoom = 128
 
--- the line at the buffer's start, the rest as it was; a buffer that is shorter than that stays as it was
-abbrev pub lineIn : List ℕ → List ℕ → List ℕ
-lineIn old line = pick (ltb (length old) lineRoom) old (line ++ drop (length line) old)
+-- the line from a place on, the rest as it was; a buffer that has less room than that from there on stays as it was
+abbrev pub lineIn : List ℕ → ℕ → List ℕ → List ℕ
+lineIn old at line = pick (ltb (length old) (at + lineRoom)) old (sets old at line)
 
--- how many bytes of the line it holds
-abbrev pub lengthIn : List ℕ → List ℕ → ℕ
-lengthIn old line = pick (ltb (length old) lineRoom) 0 (length line)
+-- the place after the line
+abbrev pub lineEnd : List ℕ → ℕ → List ℕ → ℕ
+lineEnd old at line = pick (ltb (length old) (at + lineRoom)) at (at + length line)
 
 -- the bytes from a place on, where they fit there
 abbrev pub storedIn : List ℕ → ℕ → List ℕ → List ℕ

@@ -4,11 +4,11 @@ ghost use Prim.Native.Nat.{_+_, _%_, _≤_, _<_};
 ghost use mathlib.Core.List.{_++_};
 ghost use lib.ListN.{length};
 ghost use lib.Seq.{sets};
-ghost use lib.Dec.{leb};
+ghost use lib.Dec.{ltb, leb};
 ghost use Rattle.io.specs.Digits.{digits, glyph};
 ghost use Rattle.listing.specs.declared.Outcome.the-variants.{Listed, Refused};
 ghost use Rattle.listing.specs.Lines.{decimalOf, placeFor, namesOf, countsOf, lineOf, lastOf};
-ghost use Rattle.listing.specs.Lent.{lineIn, lengthIn, storedIn};
+ghost use Rattle.listing.specs.Lent.{lineRoom, lineIn, lineEnd, storedIn};
 use framing::Ending;
 use refusals::Refusal;
 
@@ -95,11 +95,11 @@ fn put_name(out: &mut [u8], at: usize, word: &[u8], base: u16, n: u16) -> usize
 }
 
 // Puts the record number, the file number and the format code.
-fn put_names(out: &mut [u8], number: u64, file: u16, format: u16) -> usize
-    requires { ⌜ 42 ≤ length (now out) ⌝ }
-    ensures { λ r. ⌜ (now (out .exit) ≡ sets (now (out .entry)) 0 (namesOf number file format)) × (r ≡ length (namesOf number file format)) × (r ≤ 42) ⌝ }
+fn put_names(out: &mut [u8], at: usize, number: u64, file: u16, format: u16) -> usize
+    requires { ⌜ at + 42 ≤ length (now out) ⌝ }
+    ensures { λ r. ⌜ (now (out .exit) ≡ sets (now (out .entry)) at (namesOf number file format)) × (r ≡ at + length (namesOf number file format)) × (r ≤ at + 42) ⌝ }
 {
-    let a = put_decimal(out, 0, number);
+    let a = put_decimal(out, at, number);
     let b = put_name(out, a, b" file ", 10, file);
     put_name(out, b, b" format ", 16, format)
 }
@@ -115,6 +115,7 @@ fn put_counts(out: &mut [u8], at: usize, scans: u32, samples: u64, off: u32) -> 
 
 fn listed(
     out: &mut [u8],
+    at: usize,
     number: u64,
     file: u16,
     format: u16,
@@ -122,10 +123,10 @@ fn listed(
     samples: u64,
     off: u32,
 ) -> usize
-    requires { ⌜ 128 ≤ length (now out) ⌝ }
-    ensures { λ r. ⌜ (now (out .exit) ≡ sets (now (out .entry)) 0 (lineOf number (Listed file format scans samples off))) × (r ≡ length (lineOf number (Listed file format scans samples off))) × (r ≤ 128) ⌝ }
+    requires { ⌜ at + lineRoom ≤ length (now out) ⌝ }
+    ensures { λ r. ⌜ (now (out .exit) ≡ sets (now (out .entry)) at (lineOf number (Listed file format scans samples off))) × (r ≡ at + length (lineOf number (Listed file format scans samples off))) ⌝ }
 {
-    let a = put_names(out, number, file, format);
+    let a = put_names(out, at, number, file, format);
     let b = put_counts(out, a, scans, samples, off);
     put(out, b, b"\n")
 }
@@ -146,25 +147,38 @@ fn place(number: u32, first: u32, bytes: u32) -> u32
     0
 }
 
-fn refused(out: &mut [u8], number: u64, refusal: Refusal, bytes: u32) -> usize
-    requires { ⌜ 128 ≤ length (now out) ⌝ }
-    ensures { λ r. ⌜ (now (out .exit) ≡ sets (now (out .entry)) 0 (lineOf number (Refused refusal bytes))) × (r ≡ length (lineOf number (Refused refusal bytes))) × (r ≤ 128) ⌝ }
+fn refused(out: &mut [u8], at: usize, number: u64, refusal: Refusal, bytes: u32) -> usize
+    requires { ⌜ at + lineRoom ≤ length (now out) ⌝ }
+    ensures { λ r. ⌜ (now (out .exit) ≡ sets (now (out .entry)) at (lineOf number (Refused refusal bytes))) × (r ≡ at + length (lineOf number (Refused refusal bytes))) ⌝ }
 {
     let t = refusals::tell(refusal);
     let p = place(t.number, t.first, bytes);
-    let a = put_decimal(out, 0, number);
+    let a = put_decimal(out, at, number);
     let b = put_count(out, a, b" refused ", t.number as u64);
     let c = put_count(out, b, b" at ", p as u64);
     put(out, c, b"\n")
 }
 
-// Puts the line of a record at the start of out, and answers its length. Where out has fewer than
-// 128 bytes, which hold any line, it puts nothing and answers 0.
-pub fn record_line(out: &mut [u8], number: u64, outcome: Outcome) -> usize
-    ensures { λ r. ⌜ (r ≡ lengthIn (now (out .entry)) (lineOf number outcome)) × (now (out .exit) ≡ lineIn (now (out .entry)) (lineOf number outcome)) ⌝ }
+// Whether out has no room for any line from place at on.
+fn no_room(out: &[u8], at: usize) -> bool
+    ensures { λ r. ⌜ r ≡ ltb (length (now (out .entry))) (at + lineRoom) ⌝ }
 {
     if out.len() < 128 {
-        return 0;
+        return true;
+    }
+    if out.len() - 128 < at {
+        return true;
+    }
+    false
+}
+
+// Puts the line of a record into out from place at on, and answers the place after it. Where out has
+// fewer than 128 bytes from there on, which hold any line, it puts nothing and answers at.
+pub fn record_line(out: &mut [u8], at: usize, number: u64, outcome: Outcome) -> usize
+    ensures { λ r. ⌜ (r ≡ lineEnd (now (out .entry)) at (lineOf number outcome)) × (now (out .exit) ≡ lineIn (now (out .entry)) at (lineOf number outcome)) ⌝ }
+{
+    if no_room(out, at) {
+        return at;
     }
     match outcome {
         Outcome::Listed {
@@ -173,16 +187,16 @@ pub fn record_line(out: &mut [u8], number: u64, outcome: Outcome) -> usize
             scans,
             samples,
             off,
-        } => listed(out, number, file, format, scans, samples, off),
-        Outcome::Refused { refusal, bytes } => refused(out, number, refusal, bytes),
+        } => listed(out, at, number, file, format, scans, samples, off),
+        Outcome::Refused { refusal, bytes } => refused(out, at, number, refusal, bytes),
     }
 }
 
-// Puts the last line in the same way.
+// Puts the last line at the start of out in the same way, and answers its length.
 pub fn last_line(out: &mut [u8], ending: Ending) -> usize
-    ensures { λ r. ⌜ (r ≡ lengthIn (now (out .entry)) (lastOf ending)) × (now (out .exit) ≡ lineIn (now (out .entry)) (lastOf ending)) ⌝ }
+    ensures { λ r. ⌜ (r ≡ lineEnd (now (out .entry)) 0 (lastOf ending)) × (now (out .exit) ≡ lineIn (now (out .entry)) 0 (lastOf ending)) ⌝ }
 {
-    if out.len() < 128 {
+    if no_room(out, 0) {
         return 0;
     }
     match ending {

@@ -1,6 +1,8 @@
 -- `lister::hear` meets its contract: one case for each thing met.
 -- Assumes nothing.
 use mathlib.Core.Path.{refl}
+use Rattle.listing.proofs.Lent.{none}
+use Rattle.lister.proofs.Said.{silent}
 use borrow.Author.Needs.{needs}
 use Rattle.lister.proofs.hear.Statement.{statement}
 use Rattle.lister.proofs.hear.Tie as tie
@@ -30,7 +32,9 @@ mark-requires : tie.Need-mark-requires
 mark-requires c κs = search needs
 
 returns : tie.Need-returns
-returns c = rw (c .enum-told .given .1) (refl, refl, refl, refl)
+returns c =
+    let g = c .before .before .before .before .before .args in
+    rw (c .enum-told .given .1) (silent (g .f) (g .count) (g .lines .now) (g .end), refl, refl, none (g .lines .now) (g .end) .1)
 
 same-length : tie.Need-same-length
 same-length c = search needs
@@ -41,7 +45,9 @@ same-length-2 c = search needs
 returns-2 : tie.Need-returns-2
 returns-2 c =
     let p = c .before .before .before .part .ensures in
-    rw (c .before .before .before .before .before .before .enum-told2 .given .1) (rw (p .0), p .1, p .2, refl)
+    let c1 = c .before .before .before .before .before .before in
+    let g = c1 .before .before .before .before .before .args in
+    rw (c1 .enum-told2 .given .1) (rw (p .0) (silent _ (g .count) (g .lines .now) (g .end)), p .1, p .2, none (g .lines .now) (g .end) .1)
 
 same-length-3 : tie.Need-same-length-3
 same-length-3 c = search needs
@@ -54,7 +60,8 @@ returns-3 c =
     let c1 = c .before .before .before .before .before in
     let c2 = c1 .before .before .before in
     let p = c1 .part2 .ensures in
-    rw (c2 .enum-told3 .given .1) (rw (c .item-end .ensures, p .0, p .1), p .1, p .2, refl)
+    let g = c2 .before .before .before .before .before .args in
+    rw (c2 .enum-told3 .given .1) (rw (c .item-end .ensures, p .0, p .1) (silent _ (g .count) (g .lines .now) (g .end)), p .1, p .2, none (g .lines .now) (g .end) .1)
 
 same-length-5 : tie.Need-same-length-5
 same-length-5 c = search needs

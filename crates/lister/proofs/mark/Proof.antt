@@ -1,6 +1,8 @@
 -- `lister::mark` meets its contract: a line, or none.
 -- Assumes nothing.
-use mathlib.Core.Path.{refl}
+use Rattle.listing.proofs.Lent.{none}
+use Rattle.lister.specs.declared.file.File.the-variants.{Empty}
+use Rattle.lister.proofs.Said.{silent}
 use borrow.Author.Needs.{needs}
 use Rattle.lister.proofs.mark.Statement.{statement}
 use Rattle.lister.proofs.mark.Tie as tie
@@ -21,7 +23,9 @@ record-line-requires : tie.Need-record-line-requires
 record-line-requires c κs = search needs
 
 returns : tie.Need-returns
-returns c = rw (← c .before .before .outcome .ensures, c .enum-told .given .1) (refl, refl)
+returns c =
+    let g = c .before .before .before .before .args in
+    rw (← c .before .before .outcome .ensures, c .enum-told .given .1) (silent Empty (g .count) (g .lines .now) (g .end), none (g .lines .now) (g .end) .1)
 
 same-length : tie.Need-same-length
 same-length c = search needs

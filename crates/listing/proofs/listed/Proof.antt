@@ -1,7 +1,6 @@
 -- `listing::listed` meets its contract: three pieces one after another.
 -- Assumes nothing.
 use mathlib.Core.List.{_∷_, []}
-use native.Mathlib.Omega.{arith}
 use Rattle.listing.specs.Lines.{namesOf, countsOf}
 use Rattle.listing.proofs.Pieces.{three}
 use borrow.Author.Needs.{needs}
@@ -33,8 +32,7 @@ returns c =
     let p = c3 .put-names .ensures in
     let q = c2 .put-counts .ensures in
     let r = c1 .put .ensures in
-    let t = three (g .out .now) (namesOf (g .number) (g .file) (g .format)) (countsOf (g .scans) (g .samples) (g .off)) (10 ∷ []) 0 (p .0) (omega (arith, p .1)) (q .0) (q .1) (r .0) (r .1) in
-    (t .0, omega (arith, t .1), omega (arith, p .2, q .2, r .1))
+    three (g .out .now) (namesOf (g .number) (g .file) (g .format)) (countsOf (g .scans) (g .samples) (g .off)) (10 ∷ []) (g .at) (p .0) (p .1) (q .0) (q .1) (r .0) (r .1)
 
 pub listed-spec : {M : Type 1} → statement M
 listed-spec =

@@ -37,8 +37,8 @@ returns c =
     let p = c3 .put-decimal .ensures in
     let q = c2 .put-name .ensures in
     let r = c1 .put-name2 .ensures in
-    let t = three (g .out .now) (decimalOf (g .number)) (ascii " file " ++ digits 10 4 (g .file)) (ascii " format " ++ digits 16 4 (g .format)) 0 (p .0) (p .1) (q .0) (q .1) (r .0) (r .1) in
-    (t .0, omega (arith, t .1), omega (arith, p .2, q .2, r .2))
+    let t = three (g .out .now) (decimalOf (g .number)) (ascii " file " ++ digits 10 4 (g .file)) (ascii " format " ++ digits 16 4 (g .format)) (g .at) (p .0) (p .1) (q .0) (q .1) (r .0) (r .1) in
+    (t .0, t .1, omega (arith, p .2, q .2, r .2))
 
 pub put-names-spec : {M : Type 1} → statement M
 put-names-spec =

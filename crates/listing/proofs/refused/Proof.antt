@@ -2,7 +2,6 @@
 -- Assumes nothing.
 use mathlib.Core.Path.{_≡_, _∙_, ap}
 use mathlib.Core.List.{_++_, _∷_, []}
-use native.Mathlib.Omega.{arith}
 use Rattle.refusals.specs.declared.Told.{Told}
 use Rattle.listing.specs.declared.Outcome.the-variants.{Refused}
 use Rattle.listing.specs.Lines.{decimalOf, ascii, placeFor, placeOf, lineOf}
@@ -63,11 +62,11 @@ returns c =
     let q = c3 .put-count .ensures in
     let r = c2 .put-count2 .ensures in
     let e = c1 .put .ensures in
-    let t = four (g .out .now) (decimalOf (g .number)) (ascii " refused " ++ decimalOf (s .result .number)) (ascii " at " ++ decimalOf (place .result)) (10 ∷ []) 0 (p .0) (p .1) (q .0) (q .1) (r .0) (r .1) (e .0) (e .1) in
+    let t = four (g .out .now) (decimalOf (g .number)) (ascii " refused " ++ decimalOf (s .result .number)) (ascii " at " ++ decimalOf (place .result)) (10 ∷ []) (g .at) (p .0) (p .1) (q .0) (q .1) (r .0) (r .1) (e .0) (e .1) in
     let at : place .result ≡ placeOf (g .refusal) (g .bytes) = place .ensures ∙ ap (λ (t : Told). placeFor (t .number) (t .first) (g .bytes)) (s .ensures) in
     let same : decimalOf (g .number) ++ ((ascii " refused " ++ decimalOf (s .result .number)) ++ ((ascii " at " ++ decimalOf (place .result)) ++ (10 ∷ []))) ≡ lineOf (g .number) (Refused (g .refusal) (g .bytes)) =
     rw (at, s .ensures) in
-    (t .0 ∙ rw same, rw (← same) (omega (arith, t .1)), omega (arith, p .2, q .2, r .2, e .1))
+    (t .0 ∙ rw same, t .1 ∙ rw same)
 
 pub refused-spec : {M : Type 1} → statement M
 refused-spec =
