@@ -11,13 +11,13 @@ use Rattle.codes.proofs.bits.Reads as codes-bits
 use Rattle.words.proofs.read_word.Reads as words-read-word
 use Rattle.words.proofs.read.Reads as words-read
 use Rattle.words.proofs.value15.Reads as words-value15
-use Rattle.words.proofs.value22.Reads as words-value22
-use Rattle.words.proofs.value42.Reads as words-value42
 use Rattle.words.proofs.value24.Reads as words-value24
 use Rattle.words.proofs.value44.Reads as words-value44
 use Rattle.words.proofs.value48.Reads as words-value48
-use Rattle.entries.proofs.off.Reads as entries-off
-use Rattle.entries.proofs.value.Reads as entries-value
+use Rattle.words.proofs.tables.of_22.Reads as words-of-22
+use Rattle.words.proofs.tables.of_42.Reads as words-of-42
+use Rattle.words.proofs.tables.off.Reads as words-off
+use Rattle.words.proofs.tables.value.Reads as words-value
 use Rattle.block.proofs.packed.Reads as block-packed
 use Rattle.block.proofs.byte_at.Reads as block-byte-at
 use Rattle.block.proofs.upper_at.Reads as block-upper-at
@@ -105,13 +105,13 @@ pub record Unique : Type 0 where
   pub read-word : OneAnswer words-read-word.Post
   pub read : OneAnswer words-read.Post
   pub value15 : OneAnswer words-value15.Post
-  pub value22 : OneAnswer words-value22.Post
-  pub value42 : OneAnswer words-value42.Post
   pub value24 : OneAnswer words-value24.Post
   pub value44 : OneAnswer words-value44.Post
   pub value48 : OneAnswer words-value48.Post
-  pub off : OneAnswer entries-off.Post
-  pub value : OneAnswer entries-value.Post
+  pub of-22 : OneAnswer words-of-22.Post
+  pub of-42 : OneAnswer words-of-42.Post
+  pub off : OneAnswer words-off.Post
+  pub value : OneAnswer words-value.Post
   pub packed : OneAnswer block-packed.Post
   pub byte-at : OneAnswer block-byte-at.Post
   pub upper-at : OneAnswer block-upper-at.Post
@@ -151,7 +151,7 @@ pub record Unique : Type 0 where
   pub fit-by : OneAnswer scan-fit-by.Post
   pub four-at : OneAnswer runs-four-at.Post
   pub byte-words : OneAnswer runs-byte-words.Post
-  pub byte-words-content : OneContent runs-byte-words.Post (λ κ e. e .1 .1 .0 .now)
+  pub byte-words-content : OneContent runs-byte-words.Post (λ κ e. e .1 .1 .1 .0 .now)
   pub words24 : OneAnswer runs-words24.Post
   pub words24-content : OneContent runs-words24.Post (λ κ e. e .1 .0 .now)
   pub words44 : OneAnswer runs-words44.Post

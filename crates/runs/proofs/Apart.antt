@@ -1,15 +1,16 @@
 -- Off-rule words of one byte, counted apart from their samples.
 -- Assumes nothing.
 use Prim.Native.Nat.{ℕ, _+_, _≤_, _<_}
-use mathlib.Core.Path.{_≡_, sym, _∙_}
+use mathlib.Core.Path.{_≡_, refl, sym, _∙_}
 use mathlib.Core.List.{List}
 use native.Mathlib.Nat.{add-zero, zero-add, add-assoc}
 use native.Mathlib.Omega.{arith}
 use Rattle.basis.specs.Digits.{byteIn}
 use Rattle.basis.specs.Upto.{upto}
+use Rattle.basis.proofs.Uptos.{upto-same}
 use Rattle.words.specs.Words.{valueOf, offOne}
-use Rattle.entries.specs.Entries.{byteCode}
-use Rattle.runs.specs.Words.{byteValue}
+use Rattle.words.specs.Tables.{byteCode, tabled}
+use Rattle.runs.specs.Words.{byteValue, tabledAt}
 use Rattle.runs.specs.Runs.{offs}
 use Rattle.runs.proofs.Done.{one-low, offs-more, offs-low}
 
@@ -49,3 +50,8 @@ counted-end {e = e} {i = i} d h =
 
 pub counted-all : {code : ℕ} {bs : List ℕ} {n off k : ℕ} → Counted code bs 0 n off k → n ≤ k → off ≡ offs (byteValue code bs) n
 counted-all {code} {bs} {n} {off} d h = all code bs n off (counted-end d h)
+
+-- what a table says has the marks of the code
+pub marked : (table : List ℕ) (code : ℕ) (bs : List ℕ) (n : ℕ) → offs (tabledAt table code bs) n ≡ offs (byteValue code bs) n
+unfolding offs offOne byteValue tabledAt tabled
+marked table code bs n = upto-same _ _ _ _ (λ k. refl) n

@@ -1,13 +1,13 @@
 -- What each loop over words keeps, and where it ends: one law, over the value of word k.
 -- Assumes nothing.
 use Prim.Native.Nat.{ℕ, zero, suc, min, _+_, _-_, _*_, _/_, _≤_, _<_}
-use mathlib.Core.Path.{_≡_, refl, sym, _∙_}
+use mathlib.Core.Path.{_≡_, refl, _∙_}
 use mathlib.Core.List.{List, [], _∷_, _++_}
-use native.Mathlib.Nat.{add-zero, min-le-left, min-le-right}
+use native.Mathlib.Nat.{min-le-left, min-le-right}
 use native.Mathlib.Omega.{arith}
 use lib.IntN.{ℤ}
 use lib.ListN.{length, length-append, take, drop, length-drop, set, length-set, take-append-drop}
-use lib.Seq.{take-all, take-append-le, take-take, take-at, drop-at}
+use lib.Seq.{take-at, drop-at}
 use Rattle.basis.specs.Upto.{upto}
 use Rattle.basis.proofs.Choices.{pick-both}
 use Rattle.basis.proofs.Uptos.{upto-more}
@@ -36,18 +36,6 @@ pub numbers-length : (f : ℕ → Value) (n : ℕ) → length (numbers f n) ≡ 
 unfolding numbers upto
 numbers-length f zero = refl
 numbers-length f (suc n) = rw (length-append, numbers-length f n) (omega arith)
-
--- the first words among more
-numbers-less : (f : ℕ → Value) (s t : ℕ) → take (2 * s) (numbers f (s + t)) ≡ numbers f s
-numbers-less f s zero = rw (add-zero s) (take-all (2 * s) (numbers f s) (rw (numbers-length f s) (omega arith)))
-numbers-less f s (suc t) =
-    let e : s + suc t ≡ s + t + 1 = omega arith in
-    rw (e, numbers-more f (s + t), take-append-le (2 * s) (numbers f (s + t)) _ (rw (numbers-length f (s + t)) (omega arith))) (numbers-less f s t)
-
-numbers-first : (f : ℕ → Value) (s k : ℕ) → s ≤ k → take (2 * s) (numbers f k) ≡ numbers f s
-numbers-first f s k h =
-    let e : s + (k - s) ≡ k = omega arith in
-    rw e at (numbers-less f s (k - s))
 
 -- no more samples than words
 pub samples-low : (words room : ℕ) → samplesIn words room ≤ words
@@ -105,22 +93,6 @@ done-from f a n k out₀ e h eo ew =
       back = rw w (drop-at (numbers f k) _ _ l);
     }
 
--- going on from the first k words, which stand there already
-pub done-at : (f : ℕ → Value) (a n k : ℕ) (out : List ℤ) → n ≡ min a (length out / 2) → k ≤ n → take (2 * k) out ≡ numbers f k → Done f a n out out (offs f k) k
-done-at f a n k out e h w =
-    let z = done-none f a n out e in
-    record {
-      least = e;
-      there = z .there;
-      room = z .room;
-      within = h;
-      same = refl;
-      few = offs-low f k;
-      counts = refl;
-      front = w;
-      back = refl;
-    }
-
 -- word j is written, and t says whether it is off rule
 abbrev pub Wrote : (ℕ → Value) → ℕ → List ℤ → List ℤ → ℕ → Type 0
 Wrote f j out o t = (t ≡ offOne (f j)) × (o ≡ set (set out (2 * j) (f j .m)) (2 * j + 1) (f j .x))
@@ -175,14 +147,6 @@ module _ {f : ℕ → Value} {a n : ℕ} {out₀ out : List ℤ} {off k : ℕ} (
         front = e .front;
         back = e .back ∙ rw two (further (2 * k) (2 * k′ - 2 * k) out out₀ (d .back));
       }
-
-  -- the first s of the words that are written
-  pub done-first : (s : ℕ) → s ≤ k → take (2 * s) out ≡ numbers f s
-  done-first s h = sym (take-take (2 * s) (2 * k) out (omega arith)) ∙ rw (d .front) (numbers-first f s k h)
-
-  -- up to word j, some of them once more
-  pub done-over : {o : List ℤ} (j : ℕ) → o ≡ over (numbers f j) out → k ≤ j → j ≤ n → Done f a n out₀ o (offs f j) j
-  done-over j e h l = done-on (done-from f a n j out (rw (d .same) (d .least)) l refl e) h
 
   -- what is written, over the front of what was there
   pub done-far : (off ≡ offs f k) × (out ≡ over (numbers f k) out₀)

@@ -10,7 +10,7 @@ use Rattle.basis.specs.Fields.{field}
 use Rattle.codes.specs.Codes.{wordBytesOf}
 use Rattle.words.specs.declared.Value.{Value}
 use Rattle.words.specs.Words.{valueOf}
-use Rattle.entries.specs.Entries.{byteCode}
+use Rattle.words.specs.Tables.{byteCode, tabled}
 
 -- the four bytes from i on, as one number; 0 where they are not all there
 unfoldable pub fourAt : List ℕ → ℕ → ℕ
@@ -35,6 +35,10 @@ plainValue code w bs k = valueOf code 0 (written 256 (byteIn bs) (w * k) w)
 -- a word of one byte, of 0022 or else of 0042
 unfoldable pub byteValue : ℕ → List ℕ → ℕ → Value
 byteValue code bs k = valueOf (byteCode code) 0 (byteIn bs k)
+
+-- the same as a table says it
+unfoldable pub tabledAt : List ℕ → ℕ → List ℕ → ℕ → Value
+tabledAt table code bs k = tabled table code (byteIn bs k)
 
 -- groups of 0015, of ten bytes: "four c of 4 bits, then four of S Q14 0"; of a group's exponents e the one that word k takes
 unfoldable pub exponentOf : ℕ → ℕ → ℕ

@@ -1,13 +1,14 @@
-// Whole sample words, read one after another. 0024, 0044 and 0048 share a loop, which the compiler makes anew for each of them, and 0015 has its own: the decoders are made of constants; 0022 and 0042 share one, by their tables. And four bytes as one number, for `stream`.
+// Whole sample words, read one after another. 0024, 0044 and 0048 share a loop, which the compiler makes anew for each of them, and 0015 has its own: the decoders are made of constants; 0022 and 0042 share one, over the table that they are lent. And four bytes as one number, for `stream`.
 ghost use mathlib.Core.Path.{_≡_};
 ghost use Prim.Native.Nat.{min, _+_, _*_, _/_, _%_, _≤_, _<_};
-ghost use lib.ListN.{length, take, set};
+ghost use lib.ListN.{length, set};
 ghost use Rattle.basis.specs.Digits.{written, byteIn};
 ghost use Rattle.words.specs.Words.{valueOf, offOne};
-ghost use Rattle.entries.specs.Entries.{byteCode};
-ghost use Rattle.runs.specs.Words.{fourAt, wordsIn, groupedIn, groupExponent, groupWord, byteValue, plainCode, plainBytes, plainValue, groupedValue, restValue};
+ghost use Rattle.words.specs.Tables.{byteCode};
+ghost use Rattle.runs.specs.Words.{fourAt, wordsIn, groupedIn, groupExponent, groupWord, byteValue, tabledAt, plainCode, plainBytes, plainValue, groupedValue, restValue};
 ghost use Rattle.runs.specs.Runs.{offs, numbers, over, ran, filled};
 use words::Value;
+use words::tables;
 
 // What a run came to: the samples that it wrote, and how many of their words are off rule.
 pub struct Ran {
@@ -111,7 +112,7 @@ fn count_byte(off: u8, code: u16, b: u8) -> u8
     requires { ⌜ off < 255 ⌝ }
     ensures { λ r. ⌜ r ≡ off + offOne (valueOf (byteCode code) 0 b) ⌝ }
 {
-    if entries::off(code, b) { off + 1 } else { off }
+    if tables::off(code, b) { off + 1 } else { off }
 }
 
 // The off-rule words among the bytes from k on and before e. Their count is a byte, as they are: so many of them are looked at in one instruction.
@@ -151,75 +152,18 @@ fn off_bytes(code: u16, bytes: &[u8], n: usize) -> usize
     off
 }
 
-// What its table says of a byte, by the columns of its code.
-fn by_columns(code: u16, b: u8) -> Value
-    ensures { λ r. ⌜ r ≡ valueOf (byteCode code) 0 b ⌝ }
+// Words of one byte, as a table says them, with the marks of 0022 or else of 0042. Off-rule words are counted apart, since that takes less than to count each with its sample.
+pub fn byte_words(table: &[u64; 256], code: u16, bytes: &[u8], out: &mut [i32]) -> Ran
+    ensures { λ r. ⌜ r ≡ ran (wordsIn 1) (tabledAt (now (table .entry)) code) (now (bytes .entry)) (now (out .entry)) ⌝ }
+    ensures { λ r. ⌜ now (out .exit) ≡ filled (wordsIn 1) (tabledAt (now (table .entry)) code) (now (bytes .entry)) (now (out .entry)) ⌝ }
 {
-    if code == 0x0022 {
-        words::value22(b)
-    } else {
-        words::value42(b)
-    }
-}
-
-// The first n words of one byte without the tables: for less than eight.
-fn few_words(code: u16, bytes: &[u8], n: usize, out: &mut [i32])
-    requires { ⌜ n ≡ min (length (now bytes)) (length (now out) / 2) ⌝ }
-    ensures { λ _. ⌜ now (out .exit) ≡ over (numbers (byteValue code (now (bytes .entry))) n) (now (out .entry)) ⌝ }
-{
+    let n = least(bytes.len(), out.len() / 2);
     let mut k: usize = 0;
     while k < n {
-        let w = by_columns(code, bytes[k]);
+        let w = tables::value(table, code, bytes[k]);
         put(out, k, w);
         k += 1;
     }
-}
-
-// Words k to k + 7, after the first k. Eight turns, always, which the compiler lays out one after another.
-fn eight_words(code: u16, bytes: &[u8], k: usize, out: &mut [i32])
-    requires { ⌜ k + 8 ≤ min (length (now bytes)) (length (now out) / 2) ⌝ }
-    requires { ⌜ take (2 * k) (now out) ≡ numbers (byteValue code (now bytes)) k ⌝ }
-    ensures { λ _. ⌜ now (out .exit) ≡ over (numbers (byteValue code (now (bytes .entry))) (k + 8)) (now (out .entry)) ⌝ }
-{
-    let mut j: usize = 0;
-    while j < 8 {
-        let w = entries::value(code, bytes[k + j]);
-        put(out, k + j, w);
-        j += 1;
-    }
-}
-
-// Where the next eight words of n begin, after the first k: there, or where the last eight do.
-fn next_eight(k: usize, n: usize) -> usize
-    requires { ⌜ (k < n) × (8 ≤ n) ⌝ }
-    ensures { λ r. ⌜ (r ≤ k) × (k < r + 8) × (r + 8 ≤ n) ⌝ }
-{
-    if k <= n - 8 { k } else { n - 8 }
-}
-
-// The first n words of one byte, eight at a time. The last eight may begin among words that are written already, which are then written once more: so there is no loop over a rest, and one place where the tables are read.
-fn first_words(code: u16, bytes: &[u8], n: usize, out: &mut [i32])
-    requires { ⌜ n ≡ min (length (now bytes)) (length (now out) / 2) ⌝ }
-    ensures { λ _. ⌜ now (out .exit) ≡ over (numbers (byteValue code (now (bytes .entry))) n) (now (out .entry)) ⌝ }
-{
-    if n < 8 {
-        return few_words(code, bytes, n, out);
-    }
-    let mut k: usize = 0;
-    while k < n {
-        let next = next_eight(k, n);
-        eight_words(code, bytes, next, out);
-        k = next + 8;
-    }
-}
-
-// Words of one byte, of 0022 or else of 0042. Off-rule words are counted apart, since that takes less than to count each with its sample.
-pub fn byte_words(code: u16, bytes: &[u8], out: &mut [i32]) -> Ran
-    ensures { λ r. ⌜ r ≡ ran (wordsIn 1) (byteValue code) (now (bytes .entry)) (now (out .entry)) ⌝ }
-    ensures { λ r. ⌜ now (out .exit) ≡ filled (wordsIn 1) (byteValue code) (now (bytes .entry)) (now (out .entry)) ⌝ }
-{
-    let n = least(bytes.len(), out.len() / 2);
-    first_words(code, bytes, n, out);
     let off = off_bytes(code, bytes, n);
     Ran {
         samples: n,

@@ -1,6 +1,6 @@
 -- Which loop runs a code's words.
 -- Assumes nothing.
-use Prim.Native.Nat.{ℕ, _*_, _<_}
+use Prim.Native.Nat.{ℕ, suc, _*_, _<_}
 use mathlib.Core.Path.{_≡_, refl, sym, ap, _∙_}
 use mathlib.Core.Bool.{Bool, true, false, _||_}
 use mathlib.Core.List.{List}
@@ -16,8 +16,9 @@ use Rattle.codes.specs.declared.Found.the-variants.{At, Nothing}
 use Rattle.codes.specs.Codes.{table, findIn, rowOf, groupIn, groupOf}
 use Rattle.codes.proofs.Rows.{holds, row-code, group-none}
 use Rattle.words.specs.Words.{valueOf}
-use Rattle.entries.specs.Entries.{byteCode}
-use Rattle.runs.specs.Words.{byteValue, plainValue}
+use Rattle.words.specs.Tables.{OneByte, is22, is42, tableOf}
+use Rattle.words.proofs.Entries.{table-says}
+use Rattle.runs.specs.Words.{tabledAt, plainValue}
 use Rattle.runs.proofs.Bytes.{written-one}
 
 pub group24 : groupOf 0x0024 ≡ 2
@@ -57,33 +58,44 @@ all-six : (code : ℕ) (r : Row) → rowOf code ≡ At r → T (six r)
 unfolding rowOf findIn table
 all-six code r e = holds six table code r tt e
 
--- the words of one byte are those of the code whose table is used
+-- the words of a code whose words have one byte are what its table says
+pub by-table : {code : ℕ} → OneByte code → tabledAt (tableOf code) code ≡ plainValue code 1
+unfolding tabledAt plainValue
+by-table {code} o = λ i bs k. at bs k i
+  where
+    at : (bs : List ℕ) (k : ℕ) → tabledAt (tableOf code) code bs k ≡ plainValue code 1 bs k
+    at bs k = table-says (byteIn bs k) o ∙ ap (λ (x : ℕ). valueOf code 0 x) (sym (written-one (byteIn bs) (1 * k) ∙ ap (byteIn bs) (one-mul k)))
+
+-- groups of one byte are of such a code
 pub record Narrow (code w : ℕ) : Type 0 where
   pub width : w ≡ 1
-  pub value : byteValue code ≡ plainValue code 1
-
-by-byte : (code : ℕ) → byteCode code ≡ code → byteValue code ≡ plainValue code 1
-unfolding byteValue plainValue
-by-byte code e = λ i bs k. at bs k i
-  where
-    at : (bs : List ℕ) (k : ℕ) → byteValue code bs k ≡ plainValue code 1 bs k
-    at bs k = rw e (ap (λ (x : ℕ). valueOf code 0 x) (sym (written-one (byteIn bs) (1 * k) ∙ ap (byteIn bs) (one-mul k))))
+  pub one : OneByte code
 
 -- a multiplexed code that is none of the other four
 pub narrow : (code w : ℕ) → groupOf code ≡ w → code < 0x8000 → 0 < w → (code ≡ 0x0024 → ⊥) → (code ≡ 0x0044 → ⊥) → (code ≡ 0x0048 → ⊥) → (code ≡ 0x0015 → ⊥) → Narrow code w
-unfolding byteCode pick
 narrow code w g low some n24 n44 n48 n15 = go (rowOf code) refl
   where
     two : (t : Bool) → eqb code 0x0022 ≡ t → T (t || eqb code 0x0042) → Narrow code w
     two true e h =
         let z = eqb-true code 0x0022 e in
-        record { width = width-is 0x0022 1 g z group22; value = by-byte code (rw z) }
+        record { width = width-is 0x0022 1 g z group22; one = is22 z }
     two false e h =
         let z = eqb→eq code 0x0042 h in
-        record { width = width-is 0x0042 1 g z group42; value = by-byte code (rw z) }
+        record { width = width-is 0x0042 1 g z group42; one = is42 z }
 
     go : (f : Found) → rowOf code ≡ f → Narrow code w
     go Nothing e = absurd (omega (arith, g, group-none code e))
     go (At r) e =
         let t : T (leb 0x8000 (r .code) || (eqb (r .code) 0x0024 || (eqb (r .code) 0x0044 || (eqb (r .code) 0x0048 || (eqb (r .code) 0x0015 || (eqb (r .code) 0x0022 || eqb (r .code) 0x0042)))))) = all-six code r e in
         two (eqb code 0x0022) refl (rw (row-code code r e, lt-leb 0x8000 code low, ne-eqb code 0x0024 n24, ne-eqb code 0x0044 n44, ne-eqb code 0x0048 n48, ne-eqb code 0x0015 n15) at t)
+
+-- a code that is neither of the two has wider groups
+pub wide : (code w : ℕ) → groupOf code ≡ w → code < 0x8000 → (code ≡ 0x0022 → ⊥) → (code ≡ 0x0042 → ⊥) → w ≡ 1 → ⊥
+wide code w g low n22 n42 e = neither (narrow code w g low (omega arith) (other group24) (other group44) (other group48) (other group15) .one)
+  where
+    other : {c k : ℕ} → groupOf c ≡ suc (suc k) → code ≡ c → ⊥
+    other p z = absurd (omega (arith, g, e, ap groupOf z, p))
+
+    neither : OneByte code → ⊥
+    neither (is22 z) = n22 z
+    neither (is42 z) = n42 z

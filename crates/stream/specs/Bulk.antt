@@ -2,7 +2,7 @@
 -- Cited by private functions alone. Assumes nothing.
 use Prim.Native.Nat.{ℕ, zero, suc, _+_, _-_, _*_, _/_, _%_, _≤_, _<_}
 use mathlib.Core.Path.{_≡_}
-use mathlib.Core.List.{List, _++_}
+use mathlib.Core.List.{List, [], _∷_, _++_}
 use lib.Dec.{eqb}
 use lib.IntN.{ℤ}
 use lib.ListN.{length, getD, take, drop}
@@ -12,6 +12,7 @@ use Rattle.codes.specs.Codes.{groupOf}
 use Rattle.runs.specs.Runs.{over}
 use Rattle.runs.specs.Words.{wordsIn, groupedIn, plainValue, groupedValue, restValue}
 use Rattle.words.specs.declared.Value.{Value}
+use Rattle.words.specs.Tables.{tableOf}
 use Rattle.scan.specs.declared.State.{State}
 use Rattle.scan.specs.Fit.{Fit}
 use Rattle.scan.specs.Step.{shift, movedBy, after, wrote}
@@ -29,6 +30,10 @@ pub data Spread (w g len : ℕ) : Type 0 where
   alone : (w ≡ 10 → ⊥) → g ≡ 0 → len % w ≡ 0 → Spread w g len
   groups : w ≡ 10 → g ≡ 0 → len % 2 ≡ 0 → Spread w g len
   rest : w ≡ 10 → 2 ≤ g → g % 2 ≡ 0 → len % 2 ≡ 0 → g + len ≤ 10 → Spread w g len
+
+-- what is lent to read words of groups of w bytes: the code's table, where its words have one byte
+abbrev pub Lent : ℕ → ℕ → List (List ℕ) → Type 0
+Lent code w tables = w ≡ 1 → tables ≡ tableOf code ∷ []
 
 -- the next `len` bytes are whole words of the present scan and before the last place
 pub record Able (s : State) (w len : ℕ) : Type 0 where

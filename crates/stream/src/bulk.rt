@@ -76,9 +76,18 @@ fn by_groups(g: u32, e: u32, bytes: &[u8], out: &mut [i32]) -> Ran
     runs::rest15(e, ((g - 2) / 2) as usize, bytes, out)
 }
 
-// The loop of the code.
-fn by_code(code: u16, w: u32, g: u32, e: u32, bytes: &[u8], out: &mut [i32]) -> Ran
+// The loop of the code; of words of one byte over their table.
+fn by_code(
+    code: u16,
+    w: u32,
+    tables: &[[u64; 256]],
+    g: u32,
+    e: u32,
+    bytes: &[u8],
+    out: &mut [i32],
+) -> Ran
     requires { ⌜ (groupOf code ≡ w) × (code < 0x8000) × (0 < w) × ((g ≡ 0 → ⊥) → 2 ≤ g) ⌝ }
+    requires { ⌜ Bulk.Lent code w (now tables) ⌝ }
     ensures { λ r. ⌜ r ≡ Runs.ran (Bulk.wordsOf w g) (Bulk.valueIn code w g e) (now (bytes .entry)) (now (out .entry)) ⌝ }
     ensures { λ r. ⌜ now (out .exit) ≡ Runs.filled (Bulk.wordsOf w g) (Bulk.valueIn code w g e) (now (bytes .entry)) (now (out .entry)) ⌝ }
 {
@@ -94,7 +103,7 @@ fn by_code(code: u16, w: u32, g: u32, e: u32, bytes: &[u8], out: &mut [i32]) -> 
     if code == 0x0015 {
         return by_groups(g, e, bytes, out);
     }
-    runs::byte_words(code, bytes, out)
+    runs::byte_words(&tables[0], code, bytes, out)
 }
 
 // The lesser of two numbers.
@@ -123,14 +132,14 @@ fn group_place(q: u32, w: u32) -> u32
 }
 
 // A run of whole words.
-fn run(s: State, w: u32, bytes: &[u8], out: &mut [i32]) -> Chunk
-    requires { ⌜ Bulk.Able s w (length (now bytes)) ⌝ }
+fn run(s: State, w: u32, tables: &[[u64; 256]], bytes: &[u8], out: &mut [i32]) -> Chunk
+    requires { ⌜ (Bulk.Able s w (length (now bytes))) × (Bulk.Lent (s .shape .code) w (now tables)) ⌝ }
     requires { ⌜ 2 * length (now bytes) ≤ length (now out) ⌝ }
     ensures { λ r. ⌜ r ≡ Bulk.chunk s (now (bytes .entry)) ⌝ }
     ensures { λ r. ⌜ now (out .exit) ≡ Runs.over (wrote s (now (bytes .entry))) (now (out .entry)) ⌝ }
 {
     let g = group_place(s.place % s.shape.scan, w);
-    let r = by_code(s.shape.code, w, g, s.exponents, bytes, out);
+    let r = by_code(s.shape.code, w, tables, g, s.exponents, bytes, out);
     let t = ran_to(s, w, g, bytes, r.off);
     Chunk {
         state: t,
@@ -207,17 +216,18 @@ pub(crate) fn ahead(s: State, w: u32, left: usize) -> usize
 pub(crate) fn run_at(
     s: State,
     w: u32,
+    tables: &[[u64; 256]],
     bytes: &[u8],
     i: usize,
     k: usize,
     out: &mut [i32],
     n: usize,
 ) -> Chunk
-    requires { ⌜ Bulk.Able s w k ⌝ }
+    requires { ⌜ (Bulk.Able s w k) × (Bulk.Lent (s .shape .code) w (now tables)) ⌝ }
     requires { ⌜ (i + k ≤ length (now bytes)) × (n + 2 * k ≤ length (now out)) ⌝ }
     ensures { λ r. ⌜ r ≡ Bulk.chunk s (take k (drop i (now (bytes .entry)))) ⌝ }
     ensures { λ r. ⌜ now (out .exit) ≡ Bulk.chunkOut s (take k (drop i (now (bytes .entry)))) n (now (out .entry)) ⌝ }
 {
     let e = i + k;
-    run(s, w, &bytes[i..e], &mut out[n..])
+    run(s, w, tables, &bytes[i..e], &mut out[n..])
 }

@@ -8,6 +8,7 @@ use refusals::Refusal;
 use refusals::stop_refusal;
 use scan::State;
 use words::Value;
+use words::tables;
 ghost use mathlib.Core.Path.{_≡_};
 ghost use Prim.Native.Nat.{_+_, _*_, _≤_, _<_};
 ghost use lib.ListN.{length, set};
@@ -15,6 +16,7 @@ ghost use Rattle.codes.specs.Codes.{groupOf};
 ghost use Rattle.runs.specs.Runs.{over};
 ghost use Rattle.scan.specs.Fit.{Fit};
 ghost use Rattle.scan.specs.Step.{wrote};
+ghost use Rattle.stream.specs.Bulk.{Lent};
 ghost use Rattle.stream.specs.Calls as Calls;
 
 // The answer of a state, after n numbers were written.
@@ -42,8 +44,8 @@ fn put(out: &mut [i32], n: usize, w: Value)
 }
 
 // The bytes of a portion that has room: a scan's start or whole words at once where they lie ahead, else one byte. `step` is called nowhere else, so that it is compiled into this loop.
-fn feed(s: State, w: u32, bytes: &[u8], out: &mut [i32]) -> Gave
-    requires { ⌜ (Fit s) × (groupOf (s .shape .code) ≡ w) ⌝ }
+fn feed(s: State, w: u32, tables: &[[u64; 256]], bytes: &[u8], out: &mut [i32]) -> Gave
+    requires { ⌜ (Fit s) × (groupOf (s .shape .code) ≡ w) × (Lent (s .shape .code) w (now tables)) ⌝ }
     requires { ⌜ 2 * length (now bytes) ≤ length (now out) ⌝ }
     ensures { λ r. ⌜ r ≡ Calls.fed s (now (bytes .entry)) ⌝ }
     ensures { λ r. ⌜ now (out .exit) ≡ over (wrote s (now (bytes .entry))) (now (out .entry)) ⌝ }
@@ -63,7 +65,7 @@ fn feed(s: State, w: u32, bytes: &[u8], out: &mut [i32]) -> Gave
                 n += 2;
             }
         } else {
-            let r = chunk_at(t, w, bytes, i, k, out, n);
+            let r = chunk_at(t, w, tables, bytes, i, k, out, n);
             t = r.state;
             i += k;
             n += r.count;
@@ -74,6 +76,27 @@ fn feed(s: State, w: u32, bytes: &[u8], out: &mut [i32]) -> Gave
         state: t,
         answer: a,
     }
+}
+
+// Where the code's words have one byte, its table is bound here, once for the portion, and lent to the loop; the other codes are lent none. The three calls differ in the tables alone: LLVM then makes one of
+// them, and compiles the loop into the portion as if it were called from one place, so that the wider codes pay nothing for the tables.
+fn by_table(s: State, w: u32, bytes: &[u8], out: &mut [i32]) -> Gave
+    requires { ⌜ (Fit s) × (groupOf (s .shape .code) ≡ w) ⌝ }
+    requires { ⌜ 2 * length (now bytes) ≤ length (now out) ⌝ }
+    ensures { λ r. ⌜ r ≡ Calls.fed s (now (bytes .entry)) ⌝ }
+    ensures { λ r. ⌜ now (out .exit) ≡ over (wrote s (now (bytes .entry))) (now (out .entry)) ⌝ }
+{
+    let code = s.shape.code;
+    if code == 0x0022 {
+        let tables = [tables::of_22()];
+        return feed(s, w, &tables, bytes, out);
+    }
+    if code == 0x0042 {
+        let tables = [tables::of_42()];
+        return feed(s, w, &tables, bytes, out);
+    }
+    let none: [[u64; 256]; 0] = [];
+    feed(s, w, &none, bytes, out)
 }
 
 // An earlier stop, then ROOM.
@@ -95,5 +118,5 @@ pub(crate) fn fit_portion(s: State, w: u32, bytes: &[u8], out: &mut [i32]) -> Ga
             answer: Answer::Refused(Refusal::Room),
         };
     }
-    feed(s, w, bytes, out)
+    by_table(s, w, bytes, out)
 }

@@ -101,13 +101,14 @@ pub(crate) fn ahead_at(s: State, w: u32, bytes: &[u8], i: usize) -> usize
 pub(crate) fn chunk_at(
     s: State,
     w: u32,
+    tables: &[[u64; 256]],
     bytes: &[u8],
     i: usize,
     k: usize,
     out: &mut [i32],
     n: usize,
 ) -> Chunk
-    requires { ⌜ (Fit s) × (Starts.Takes s w (now bytes) i k) ⌝ }
+    requires { ⌜ (Fit s) × (Starts.Takes s w (now bytes) i k) × (Bulk.Lent (s .shape .code) w (now tables)) ⌝ }
     requires { ⌜ (i + k ≤ length (now bytes)) × (n + 2 * k ≤ length (now out)) ⌝ }
     ensures { λ r. ⌜ r ≡ Bulk.chunk s (take k (drop i (now (bytes .entry)))) ⌝ }
     ensures { λ r. ⌜ now (out .exit) ≡ Bulk.chunkOut s (take k (drop i (now (bytes .entry)))) n (now (out .entry)) ⌝ }
@@ -118,5 +119,5 @@ pub(crate) fn chunk_at(
             count: 0,
         };
     }
-    run_at(s, w, bytes, i, k, out, n)
+    run_at(s, w, tables, bytes, i, k, out, n)
 }

@@ -1,3 +1,5 @@
 pub mod Signs
 pub mod Joins
 pub mod Parts
+pub mod Entries
+pub mod OffBytes

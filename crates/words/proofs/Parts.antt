@@ -2,7 +2,7 @@
 -- Assumes nothing.
 use Prim.Native.Nat.{ℕ, zero, suc, _+_, _-_, _^_, _<_}
 use mathlib.Core.Path.{_≡_, sym, _∙_, ap}
-use mathlib.Core.Bool.{Bool, _||_}
+use mathlib.Core.Bool.{Bool, false, _&&_, _||_}
 use native.Mathlib.Nat.{zero-mul, add-zero, zero-div, zero-mod}
 use native.Mathlib.Omega.{arith}
 use lib.Dec.{ltb}
@@ -14,8 +14,9 @@ use Rattle.basis.proofs.FieldLaws.{rejoined}
 use Rattle.codes.specs.declared.Row.{Row}
 use Rattle.codes.specs.declared.Found.the-variants.{At}
 use Rattle.codes.specs.Codes.{rowOf}
+use Rattle.refusals.specs.declared.Refusal.the-variants.{Index}
 use Rattle.words.specs.declared.Value.{Value}
-use Rattle.words.specs.declared.Word.the-variants.{Sample}
+use Rattle.words.specs.declared.Word.the-variants.{Sample, Refused}
 use Rattle.words.specs.Words.{signedFraction, powerOf, offRule, sampleIn, wordIn, wordOf, valued, valueOf, signIn, fractionIn, lastIn, spareOf}
 
 pub from-parts : (r : Row) (c word : ℕ) {s e q last : ℕ} {m x : ℤ} {off : Bool}
@@ -67,6 +68,11 @@ module _ (code : ℕ) (r : Row) (e : rowOf code ≡ At r) where
   unfolding wordIn pick
   taken c word low hc hw =
       word-row c word ∙ rw (lt-leb 0x8000 (r .code) low, lt-ltb c (2 ^ r .apart) hc, lt-ltb word (2 ^ (r .width - r .apart)) hw)
+
+  -- and one that is wider is not
+  pub not-taken : (c word : ℕ) → r .code < 0x8000 → (ltb c (2 ^ r .apart) && ltb word (2 ^ (r .width - r .apart))) ≡ false → wordOf code c word ≡ Refused Index
+  unfolding wordIn pick
+  not-taken c word low h = word-row c word ∙ rw (lt-leb 0x8000 (r .code) low, h)
 
   pub value-of : (c word : ℕ) {v : Value} → r .code < 0x8000 → c < 2 ^ r .apart → word < 2 ^ (r .width - r .apart)
       → v ≡ valued (sampleIn r c word) → v ≡ valueOf code c word

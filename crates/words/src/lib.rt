@@ -1,4 +1,6 @@
-// Sample words: the fraction, the exponent and the off-rule mark of a word in each of the six multiplexed codes.
+// Sample words: the fraction, the exponent and the off-rule mark of a word in each of the six multiplexed codes. Words of one byte are read from the tables of tables.rt.
+pub mod tables;
+
 ghost use mathlib.Core.Path.{_≡_};
 ghost use Prim.Native.Nat.{_<_, _≤_, _^_, _*_, _+_, _-_, _/_, _%_};
 ghost use mathlib.Core.Bool.{_&&_, _||_};
@@ -9,6 +11,7 @@ ghost use Rattle.basis.specs.Fields.{field};
 ghost use Rattle.codes.specs.Codes.{SoundRow, row, rowOf};
 ghost use Rattle.codes.specs.declared.Found.the-variants.{At};
 ghost use Rattle.codes.specs.declared.Kind.the-variants.{OnesComplement, SignMagnitude, Justified};
+ghost use Rattle.words.specs.Tables.{OneByte, tableOf};
 ghost use Rattle.words.specs.Words.{signedFraction, powerOf, lastBit, negativeZero, allOnes, offRule, sampleIn, wordIn, wordOf, valued, valueOf};
 use codes::Found;
 use codes::Kind;
@@ -198,10 +201,37 @@ fn of_row(row: Row, c: u32, word: u32) -> Word
     Word::Refused(Refusal::Index)
 }
 
+// The answer to a word of a code whose words have one byte, from the code's table.
+fn by_table(table: &[u64; 256], code: u16, c: u32, word: u32) -> Word
+    requires { ⌜ (now table ≡ tableOf code) × (OneByte code) ⌝ }
+    ensures { λ r. ⌜ r ≡ wordOf code c word ⌝ }
+{
+    if c != 0 {
+        return Word::Refused(Refusal::Index);
+    }
+    if 255 < word {
+        return Word::Refused(Refusal::Index);
+    }
+    let v = tables::value(table, code, word as u8);
+    Word::Sample {
+        m: v.m,
+        x: v.x,
+        off: v.off,
+    }
+}
+
 // The sample that a word of a format code is, with the exponent c that stands apart from it (0015; elsewhere 0); or FORMAT, DEMUX, INDEX.
 pub fn read_word(code: u16, c: u32, word: u32) -> Word
     ensures { λ r. ⌜ r ≡ wordOf code c word ⌝ }
 {
+    if code == 0x0022 {
+        let table = tables::of_22();
+        return by_table(&table, code, c, word);
+    }
+    if code == 0x0042 {
+        let table = tables::of_42();
+        return by_table(&table, code, c, word);
+    }
     let found = codes::find(code);
     match found {
         Found::At(row) => of_row(row, c, word),
@@ -247,20 +277,6 @@ fn by_row(r: Row, word: u32) -> Value
         0,
         word,
     ))
-}
-
-// A word of 0022.
-pub fn value22(word: u8) -> Value
-    ensures { λ r. ⌜ r ≡ valueOf 0x0022 0 word ⌝ }
-{
-    by_row(codes::ROW_22, word as u32)
-}
-
-// A word of 0042.
-pub fn value42(word: u8) -> Value
-    ensures { λ r. ⌜ r ≡ valueOf 0x0042 0 word ⌝ }
-{
-    by_row(codes::ROW_42, word as u32)
 }
 
 // A word of 0024.

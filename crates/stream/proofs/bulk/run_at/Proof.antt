@@ -39,7 +39,7 @@ run-requires : tie.Need-run-requires
 run-requires c κs =
     let z = c .before .before .before in
     let l = part-len (now (z .args .bytes)) (z .args .i) (z .args .k) (z .pre .1 .0) in
-    (rw l (z .pre .0), rw (l, rest-all (now (z .args .out)) (z .args .n)) (simp length-drop (omega (arith, z .pre .1))))
+    ((rw l (z .pre .0 .0), z .pre .0 .1), rw (l, rest-all (now (z .args .out)) (z .args .n)) (simp length-drop (omega (arith, z .pre .1))))
 
 same-length : tie.Need-same-length
 same-length c = search needs
@@ -49,7 +49,7 @@ unfolding chunkOut
 returns c =
     let z = c .before .before .before .before .before in
     let e : z .args .i + z .args .k - z .args .i ≡ z .args .k = omega arith in
-    let p = put-part (now (z .args .out)) (c .before .run .last .1 .1 .1 .0) _ (z .args .n) (c .before .run .ensures .1) in
+    let p = put-part (now (z .args .out)) (c .before .run .last .1 .1 .1 .1 .0) _ (z .args .n) (c .before .run .ensures .1) in
     (rw e at (c .before .run .ensures .0), rw e at p)
 
 pub run-at-spec : {M : Type 1} → statement M

@@ -16,10 +16,10 @@ use Rattle.stream.proofs.feed.feed.Statement.{statement}
 use Rattle.stream.proofs.feed.feed.Tie as tie
 
 abbrev Inv-loop : tie.InvT-loop
-Inv-loop w bytes out₀ t₀ n₀ i₀ out t n i = Going bytes out₀ t₀ out t n i
+Inv-loop w tables bytes out₀ t₀ n₀ i₀ out t n i = Going bytes out₀ t₀ out t n i
 
 abbrev μ-loop : tie.MeasureT-loop
-μ-loop w bytes out₀ t₀ n₀ i₀ out t n i = length bytes - i
+μ-loop w tables bytes out₀ t₀ n₀ i₀ out t n i = length bytes - i
 
 loop-holds : tie.Need-loop-holds Inv-loop μ-loop
 loop-holds c =
@@ -88,7 +88,7 @@ chunk-at-requires c κs =
     let h = c .before .before .ahead-at .ensures in
     let e = c .before .if1 .left in
     let w : groupOf (b .t .shape .code) ≡ z .args .w = rw (b .inv .shape) (z .pre .0 .1) in
-    ((b .inv .fit, subst (λ (x : ℕ). Takes (b .t) x (now (z .args .bytes)) (b .i) (c .before .before .ahead-at .result)) w (h .takes (omega arith))), omega (arith, h .within, b .inv, z .pre .1, c .before .before .before .loop-test .taken))
+    ((b .inv .fit, subst (λ (x : ℕ). Takes (b .t) x (now (z .args .bytes)) (b .i) (c .before .before .ahead-at .result)) w (h .takes (omega arith)), rw (b .inv .shape) (z .pre .0 .2)), omega (arith, h .within, b .inv, z .pre .1, c .before .before .before .loop-test .taken))
 
 add-i-2 : tie.Need-add-i-2 Inv-loop μ-loop
 add-i-2 c =

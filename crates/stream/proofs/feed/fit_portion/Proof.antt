@@ -21,16 +21,16 @@ returns-2 : tie.Need-returns-2
 unfolding fitPortion fitWrote unchanged over pick
 returns-2 c = search (tests, room-short _ _ (c .if2 .taken), c .before .if1 .left)
 
-feed-requires : tie.Need-feed-requires
-feed-requires c κs = let z = c .before .before .before .before .before in (z .pre, omega (arith, c .before .if2 .left))
+by-table-requires : tie.Need-by-table-requires
+by-table-requires c κs = let z = c .before .before .before .before .before in (z .pre, omega (arith, c .before .if2 .left))
 
 same-length : tie.Need-same-length
 same-length c = search needs
 
 returns-3 : tie.Need-returns-3
 unfolding fitPortion fitWrote unchanged over pick
-returns-3 c = search (tests, room-enough _ _ (c .before .before .before .if2 .left), c .before .before .before .before .if1 .left, c .before .feed .ensures)
+returns-3 c = search (tests, room-enough _ _ (c .before .before .before .if2 .left), c .before .before .before .before .if1 .left, c .before .by-table .ensures)
 
 pub fit-portion-spec : {M : Type 1} → statement M
 fit-portion-spec =
-    tie.close (tie.spec answered-requires returns returns-2 feed-requires same-length returns-3)
+    tie.close (tie.spec answered-requires returns returns-2 by-table-requires same-length returns-3)

@@ -20,7 +20,7 @@ returns c =
     (start-chunk (z .args .s) (now (z .args .bytes)) (z .args .i) (t .1) (λ j. omega (arith, c .before .before .before .shared-slice-known .given j)) (z .args .k) _ (t .0) (c .started .ensures), start-out (z .args .s) (now (z .args .bytes)) (z .args .i) (t .1) (λ j. omega (arith, c .before .before .before .shared-slice-known .given j)) (z .args .k) (z .args .n) _ (t .0))
 
 run-at-requires : tie.Need-run-at-requires
-run-at-requires c κs = let z = c .before .before .before .before in (z .pre .0 .1 .words (c .before .if1 .left), z .pre .1)
+run-at-requires c κs = let z = c .before .before .before .before in ((z .pre .0 .1 .words (c .before .if1 .left), z .pre .0 .2), z .pre .1)
 
 same-length : tie.Need-same-length
 same-length c = search needs
