@@ -63,22 +63,14 @@ fn with_sign(s: u32, q: u32, kept: u32) -> i32
     if s == 0 { q as i32 } else { -(kept as i32) }
 }
 
-// The same without a choice: Q less S times Q and what it keeps. In a loop over words of two bytes LLVM so takes eight at a turn; with the choice it takes four.
-fn by_sum(s: u32, q: u32, kept: u32) -> i32
-    requires { ⌜ (s < 2) × (q < 2 ^ 30) × (kept < 2 ^ 30) ⌝ }
-    ensures { λ r. ⌜ r ≡ pick (eqb s 0) (pos q) (negℤ (pos kept)) ⌝ }
-{
-    basis::difference(q, s * (q + kept))
-}
-
 // M, by how the fraction is kept: minus the complemented Q, or minus Q.
 fn signed_fraction(kind: Kind, n: u32, s: u32, q: u32) -> i32
-    requires { ⌜ (n < 31) × (s < 2) × (q < 2 ^ n) ⌝ }
+    requires { ⌜ (n < 31) × (q < 2 ^ n) ⌝ }
     ensures { λ r. ⌜ r ≡ signedFraction kind n s q ⌝ }
 {
     match kind {
-        Kind::OnesComplement => by_sum(s, q, ones(n) - q),
-        Kind::SignMagnitude => by_sum(s, q, q),
+        Kind::OnesComplement => with_sign(s, q, ones(n) - q),
+        Kind::SignMagnitude => with_sign(s, q, q),
         Kind::Justified => with_sign(s, q, q),
     }
 }

@@ -54,8 +54,7 @@ bits-requires-3 c κs = search needs
 
 signed-fraction-requires : tie.Need-signed-fraction-requires
 signed-fraction-requires c κs =
-    let s : c .before .before .bits .result < 2 ^ 1 = rw (c .before .before .bits .ensures) (field-below _ _ _ 1 (omega arith)) in
-    (omega arith, omega arith, rw (c .bits3 .ensures) (field-below _ _ _ _ (search needs)))
+    (omega arith, rw (c .bits3 .ensures) (field-below _ _ _ _ (search needs)))
 
 power-requires : tie.Need-power-requires
 power-requires c κs =
