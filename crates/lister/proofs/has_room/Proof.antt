@@ -1,0 +1,11 @@
+-- `lister::has_room` meets its contract: the three tests.
+-- Assumes nothing.
+use mathlib.Core.Path.{refl}
+use Rattle.lister.proofs.has_room.Statement.{statement}
+use Rattle.lister.proofs.has_room.Tie as tie
+
+returns : tie.Need-returns
+returns c = refl
+
+pub has-room-spec : {M : Type 1} → statement M
+has-room-spec = tie.close (tie.spec returns)
