@@ -3,9 +3,18 @@
 use std::io::{Error, Read, Result};
 use std::os::fd::{FromRawFd, OwnedFd};
 use std::os::unix::net::UnixDatagram;
+use std::path::PathBuf;
 use std::process::{Command, Stdio};
 
-const LISTER: &str = concat!(env!("CARGO_MANIFEST_DIR"), "/../target/bin/reel");
+/// The lister of target/bin, or of the folder that `SEGD_OWN` names.
+fn program() -> PathBuf {
+    std::env::var_os("SEGD_OWN")
+        .map_or_else(
+            || PathBuf::from(concat!(env!("CARGO_MANIFEST_DIR"), "/../target/bin")),
+            PathBuf::from,
+        )
+        .join("reel")
+}
 
 extern "C" {
     fn socketpair(domain: i32, kind: i32, protocol: i32, ends: *mut i32) -> i32;
@@ -35,11 +44,11 @@ fn connection() -> Result<(UnixDatagram, OwnedFd)> {
 /// empty, and how it ended where that was not well.
 pub fn listing(portions: &[&[u8]]) -> String {
     let (input, its) = connection().expect("a pair of sockets");
-    let mut lister = Command::new(LISTER)
+    let mut lister = Command::new(program())
         .stdin(its)
         .stdout(Stdio::piped())
         .spawn()
-        .expect("target/bin/reel is built");
+        .expect("the lister is built");
     send(input, portions);
     let mut text = Vec::new();
     let printed = lister.stdout.take().expect("its output is a pipe").read_to_end(&mut text);
