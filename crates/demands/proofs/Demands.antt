@@ -58,7 +58,7 @@ use Rattle.demands.specs.Demand1.{Unmoved, NoTrace, Demand1}
 use Rattle.demands.specs.Demand2.{OwnBytes, Compared, Cut, Askable, Demand2}
 use Rattle.demands.specs.Demand3.{InOrder, Demand3}
 use Rattle.demands.specs.Reel.{Reel}
-use Rattle.demands.proofs.Numbers.{numbers}
+use Rattle.demands.proofs.Numbers.{numbers, three}
 use Rattle.demands.proofs.Uniques.{unique}
 use Rattle.demands.proofs.Helds.{unique-held}
 use Rattle.demands.proofs.Bounds.{bound}
@@ -89,6 +89,7 @@ demand1 = record {
   bound = bound;
   bound-held = bound-held;
   numbers = numbers;
+  three = three;
   stays-after-portion = stays-after-portion;
   stays-after-end = stays-after-end;
   stopped = stays;

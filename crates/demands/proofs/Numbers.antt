@@ -1,10 +1,10 @@
 -- Each refusal answers what the table says of it, row by row.
 -- Assumes nothing.
-use mathlib.Core.Path.{_≡_, refl}
+use mathlib.Core.Path.{_≡_, refl, ap}
 use Rattle.refusals.specs.declared.Refusal.{Refusal}
 use Rattle.refusals.specs.declared.Refusal.the-variants as refusal
-use Rattle.refusals.specs.Table.{said}
-use Rattle.demands.specs.Numbers.{numbered}
+use Rattle.refusals.specs.Table.{said, told}
+use Rattle.demands.specs.Numbers.{numbered, inThree}
 
 pub numbers : (r : Refusal) → said r ≡ numbered r
 numbers refusal.Short = refl
@@ -30,3 +30,6 @@ numbers refusal.Open = refl
 numbers refusal.Missing = refl
 numbers refusal.Large = refl
 numbers refusal.State = refl
+
+pub three : (r : Refusal) → told r ≡ inThree (numbered r)
+three r = ap inThree (numbers r)

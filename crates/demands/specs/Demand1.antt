@@ -10,7 +10,7 @@ use lib.ListN.{length}
 use Rattle.refusals.specs.declared.Refusal.{Refusal}
 use Rattle.refusals.specs.declared.Refusal.the-variants as refusal
 use Rattle.scan.specs.declared.State.{State}
-use Rattle.refusals.specs.Table.{said, stopRefusal}
+use Rattle.refusals.specs.Table.{said, told, stopRefusal}
 use Rattle.header.specs.declared.Answer.the-variants.{Refused}
 use Rattle.header.specs.Answers.{headerAnswer}
 use Rattle.scan.specs.Fit.{stopb, fitb}
@@ -25,7 +25,7 @@ use Rattle.body.specs.Ends as ends
 use Rattle.body.specs.Open.{opened}
 use Rattle.agree.specs.Calls.{Call, readOn}
 use Rattle.agree.specs.Agreement.{TurnedAway}
-use Rattle.demands.specs.Numbers.{numbered}
+use Rattle.demands.specs.Numbers.{numbered, inThree}
 use Rattle.demands.specs.Unique.{Unique}
 use Rattle.demands.specs.Held.{UniqueHeld}
 use Rattle.demands.specs.Bound.{Bound}
@@ -74,6 +74,7 @@ pub record Demand1 : Type 2 where
   pub bound-held : BoundHeld
   -- "Each answers its number and the values its row names"
   pub numbers : (r : Refusal) → said r ≡ numbered r
+  pub three : (r : Refusal) → told r ≡ inThree (numbered r)
   -- a call that answers with a stop leaves a state that keeps it
   pub stays-after-portion : (s : State) (bs : List ℕ) (room n : ℕ) (r : Refusal) → calls.portion s bs room .answer ≡ answer.Stopped n r →
       SameStop (calls.portion s bs room .state) r

@@ -3,8 +3,10 @@
 -- Assumes nothing.
 use Prim.Native.Nat.{ℕ}
 use mathlib.Core.List.{List, [], _∷_}
+use lib.ListN.{getD}
 use Rattle.refusals.specs.declared.Refusal.{Refusal}
 use Rattle.refusals.specs.declared.Refusal.the-variants as refusal
+use Rattle.refusals.specs.declared.Told.{Told}
 use Rattle.refusals.specs.Table.{Said}
 
 -- a row's number, and the values that it names
@@ -38,3 +40,7 @@ numbered refusal.Open = no 20 []
 numbered refusal.Missing = no 21 []
 numbered refusal.Large = no 22 []
 numbered refusal.State = no 23 []
+
+-- a row as three numbers, which the calls answer and the lister prints: its number, the first value that it names and the second, and 0 where it names none
+abbrev pub inThree : Said → Told
+inThree s = record { number = s .number; first = getD (s .values) 0 0; second = getD (s .values) 1 0 }
