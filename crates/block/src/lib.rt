@@ -17,11 +17,12 @@ fn is_pair(byte: u8) -> bool
     (byte / 16 <= 9) & (byte % 16 <= 9)
 }
 
-// What a byte's two digits write: the one place where a digit pair is worked out.
+// What a byte's two digits write: the one place where a digit pair is worked out. The byte is the upper digit times sixteen plus the lower, so less six times the upper digit, as the deck's
+// service manual has it, it is what the page says: the upper times ten plus the lower.
 fn pair_of(byte: u8) -> u8
     ensures { λ r. ⌜ r ≡ pairOf byte ⌝ }
 {
-    byte / 16 * 10 + byte % 16
+    byte - byte / 16 * 6
 }
 
 // A byte as a pair of digits.
