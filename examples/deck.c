@@ -1,7 +1,8 @@
 /*
  * deck IMAGE RECORD SAMPLES - reads one record of a reel image, and writes its samples to a file that is not there yet.
  *
- * It needs the same memory for every reel, and trusts nothing in the image: what the library does not check (the image's framing, the
+ * It reads multiplexed records; of a demultiplexed one (a code 80xx) it says DEMUX, as the lister does, since the library does not read
+ * bodies of traces yet. It needs the same memory for every reel, and trusts nothing in the image: what the library does not check (the image's framing, the
  * length of a header item) is checked here. The exit status says how it went; README.md beside this file tells the formats.
  */
 #include "segd.h"
@@ -25,7 +26,7 @@ typedef struct {
     const char *samples_path;
     FILE *samples;      /* null until the header is accepted: a refused header leaves no file */
     SegdGeneral header;
-    SegdTold refusal;   /* of the header; all 0 where the body is read */
+    SegdTold refusal;   /* of the header, or DEMUX; all 0 where the body is read */
     SegdState state;
     uint64_t kept;      /* samples written so far */
 } Deck;
@@ -148,8 +149,10 @@ static Step read_header(Deck *deck, uint32_t length)
     SegdOpened opened = segd_open(block, length);
     deck->header = segd_read_header(block, length).header;
     deck->refusal = opened.refusal;
+    if (opened.kind == SEGD_TRACES)
+        deck->refusal.number = SEGD_DEMUX;
     deck->state = opened.state;
-    return opened.refusal.number == 0 ? open_samples(deck) : FINE;
+    return deck->refusal.number == 0 ? open_samples(deck) : FINE;
 }
 
 static Step read_portion(Deck *deck, size_t count)

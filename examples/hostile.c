@@ -98,7 +98,7 @@ static void try_forged_whole(void)
     memset(&state, 0, sizeof state);
     HOLDS(refused_as_unfit(state));
     SegdOpened unopened = segd_open(case_l, 31);
-    HOLDS(is_refusal(unopened.refusal, SEGD_SHORT, 0));
+    HOLDS(is_refusal(unopened.refusal, SEGD_SHORT, 0) && unopened.kind == 0);
     HOLDS(same_state(unopened.state, state));
 }
 
@@ -264,6 +264,26 @@ static void try_cut_blocks(void)
     try_refused_block(pages, page, SEGD_FORMAT);
 }
 
+/* Case L's header in each code 80xx: it is accepted, and what its opening hands out is unfit for the calls on scans. */
+static void try_traces(void)
+{
+    static const uint8_t codes[] = {0x15, 0x22, 0x24, 0x42, 0x44, 0x48};
+    static const SegdState nothing;
+    uint8_t traces[sizeof case_l];
+
+    memcpy(traces, case_l, sizeof case_l);
+    traces[2] = 0x80;
+    traces[21] = 0x00;
+    for (size_t i = 0; i < sizeof codes; i++) {
+        traces[3] = codes[i];
+        SegdOpened opened = segd_open(traces, sizeof traces);
+        HOLDS(is_refusal(opened.refusal, 0, 0) && opened.kind == SEGD_TRACES);
+        HOLDS(same_state(opened.state, nothing) && refused_as_unfit(opened.state));
+    }
+    traces[21] = 0x12;
+    try_refused_block(traces, sizeof traces, SEGD_RANGE);
+}
+
 /* An accepted header, asked about what it has not. */
 static void try_questions(void)
 {
@@ -286,7 +306,9 @@ static void try_questions(void)
     HOLDS(is_refusal(segd_skew_at(case_l, length, body, 5, 1, 0).refusal, SEGD_SHEET, 0));
     HOLDS(is_refusal(segd_sample_time(case_l, length, body, 3, 1, 0, 0).refusal, SEGD_SHEET, 0));
     HOLDS(is_refusal(segd_read_word(0x0023, 0, 0).refusal, SEGD_FORMAT, 0));
-    HOLDS(is_refusal(segd_read_word(0x8022, 0, UINT32_MAX).refusal, SEGD_DEMUX, 0));
+    HOLDS(is_refusal(segd_read_word(0x8023, 0, 0).refusal, SEGD_FORMAT, 0));
+    HOLDS(is_refusal(segd_read_word(0x8022, 0, UINT32_MAX).refusal, SEGD_INDEX, 0));
+    HOLDS(is_refusal(segd_read_word(0x8015, 16, 0).refusal, SEGD_INDEX, 0));
     HOLDS(is_refusal(segd_read_word(0x0022, 1, 0).refusal, SEGD_INDEX, 0));
     HOLDS(is_refusal(segd_read_word(0x0015, 16, 0).refusal, SEGD_INDEX, 0));
 }
@@ -301,6 +323,7 @@ int main(void)
     try_made_up();
     try_room();
     try_cut_blocks();
+    try_traces();
     try_questions();
     return finish();
 }

@@ -25,7 +25,7 @@ _Static_assert(sizeof(SegdTime) == 16, "deck::SegdTime");
 _Static_assert(sizeof(SegdShape) == 20, "scan::Shape");
 _Static_assert(sizeof(SegdTrack) == 20, "scan::Track");
 _Static_assert(sizeof(SegdState) == 68, "scan::State");
-_Static_assert(sizeof(SegdOpened) == 80, "deck::SegdOpened");
+_Static_assert(sizeof(SegdOpened) == 84, "deck::SegdOpened");
 _Static_assert(sizeof(SegdGave) == 96, "deck::SegdGave");
 _Static_assert(sizeof(SegdClosing) == 56, "deck::SegdClosing");
 
@@ -80,6 +80,8 @@ static void try_words(void)
     SAME(row.exponent, 7);
     SAME(row.bias, 64);
     SAME(segd_format(0x0015).apart, 4);
+    SAME(segd_format(0x0015).fraction, 14);
+    SAME(segd_format(0x8015).fraction, 15);
     SAME(segd_format(0x0042).kind, SEGD_SIGN_MAGNITUDE);
     SAME(segd_format(0x0025).found, 0);
 
@@ -88,6 +90,11 @@ static void try_words(void)
     SAME(word.m, -16383);
     SAME(word.x, 1);
     SAME(word.off, 0);
+    SAME(segd_read_word(0x8015, 15, 0x8000).m, -32767);
+    SAME(segd_read_word(0x8015, 15, 0x8000).x, 0);
+    SAME(segd_read_word(0x8015, 0, 0x0001).off, 0);
+    SAME(segd_read_word(0x8015, 0, 0xFFFF).off, 1);
+    SAME(segd_read_word(0x8022, 0, 0x97).m, -8);
     SAME(segd_read_word(0x0022, 0, 0xFF).off, 1);
     SAME(segd_read_word(0x0022, 0, 0x100).refusal.number, SEGD_INDEX);
     SAME(segd_packed(0x42).found, 1);
@@ -217,7 +224,29 @@ static SegdState open_body(void)
     small[64] = 0x02;
     SegdOpened opened = segd_open(small, sizeof small);
     SAME(opened.refusal.number, 0);
+    SAME(opened.kind, SEGD_SCANS);
     return opened.state;
+}
+
+/* Case L's header in 8022: B is 0, and the body another. */
+static void try_traces(void)
+{
+    uint8_t traces[sizeof case_l];
+
+    memcpy(traces, case_l, sizeof case_l);
+    traces[2] = 0x80;
+    SAME(segd_open(traces, sizeof traces).refusal.number, SEGD_RANGE);
+    SAME(segd_open(traces, sizeof traces).kind, 0);
+    traces[21] = 0x00;
+    SegdOpened opened = segd_open(traces, sizeof traces);
+    SAME(opened.refusal.number, 0);
+    SAME(opened.kind, SEGD_TRACES);
+    SAME(opened.state.shape.code, 0);
+    SegdHeader answer = segd_read_header(traces, sizeof traces);
+    SAME(answer.refusal.number, 0);
+    SAME(answer.header.code, 0x8022);
+    SAME(answer.header.bytes_per_scan, 0);
+    SAME(answer.header.samples_per_scan, 4);
 }
 
 static void try_state(const SegdState *state)
@@ -287,5 +316,6 @@ int main(void)
     try_places();
     try_skew();
     try_body();
+    try_traces();
     return finish();
 }

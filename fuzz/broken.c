@@ -18,9 +18,12 @@ enum fault {
     FORGETS_END,
     MISPLACES,
     READS_AFTER_BLOCK,
-    READS_AFTER_SHEET
+    READS_AFTER_SHEET,
+    TAKES_TRACES_FOR_SCANS
 };
 
+SegdOpened __real_segd_open(const uint8_t *block, size_t length);
+SegdOpened __wrap_segd_open(const uint8_t *block, size_t length);
 SegdGave __real_segd_portion(SegdState state, const uint8_t *bytes, size_t length, int32_t *out, size_t room);
 SegdGave __wrap_segd_portion(SegdState state, const uint8_t *bytes, size_t length, int32_t *out, size_t room);
 SegdGave __real_segd_block_end(SegdState state);
@@ -52,6 +55,14 @@ static void spoil(SegdGave *gave, size_t length, int32_t *out, size_t room)
     case FORGETS_STOP: gave->state.stop = 0; break;
     default: break;
     }
+}
+
+SegdOpened __wrap_segd_open(const uint8_t *block, size_t length)
+{
+    SegdOpened opened = __real_segd_open(block, length);
+    if (fault() == TAKES_TRACES_FOR_SCANS && opened.kind == SEGD_TRACES)
+        opened.kind = SEGD_SCANS;
+    return opened;
 }
 
 SegdGave __wrap_segd_portion(SegdState state, const uint8_t *bytes, size_t length, int32_t *out, size_t room)

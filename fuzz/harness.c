@@ -221,18 +221,27 @@ static void do_call(struct record *record)
     }
 }
 
-/* Opens the record: what the header refuses, opening refuses too, with a state that is all 0. */
+/* The kind of body that an opening has to name. */
+static uint8_t kind_of(const SegdHeader *header)
+{
+    if (header->refusal.number != 0)
+        return 0;
+    return header->header.code & 0x8000 ? SEGD_TRACES : SEGD_SCANS;
+}
+
+/* Opens the record: what the header refuses, opening refuses too. But for a body of scans the state is all 0, and unfit. */
 static SegdState open_record(struct record *record)
 {
     static const SegdState nothing;
     const uint8_t *block = lend(LENT_BLOCK, record->block.at, record->block.left);
     record->header = segd_read_header(block, record->block.left);
     SegdOpened opened = segd_open(block, record->block.left);
-    uint32_t number = record->header.refusal.number;
-    DEMAND(opened.refusal.number == number && opened.refusal.first == record->header.refusal.first);
-    DEMAND(opened.refusal.second == record->header.refusal.second);
-    DEMAND((put_close(opened.state).refusal.number == SEGD_STATE) == (number != 0));
-    DEMAND(number == 0 || same_state(&opened.state, &nothing));
+    SegdTold refusal = record->header.refusal;
+    DEMAND(opened.refusal.number == refusal.number && opened.refusal.first == refusal.first);
+    DEMAND(opened.refusal.second == refusal.second && opened.kind == kind_of(&record->header));
+    int scans = opened.kind == SEGD_SCANS;
+    DEMAND((put_close(opened.state).refusal.number == SEGD_STATE) == !scans);
+    DEMAND(scans || same_state(&opened.state, &nothing));
     return opened.state;
 }
 

@@ -131,12 +131,20 @@ void ask_all(const struct lent_block *lent, const struct numbers *numbers)
 {
     SegdHeader header = segd_read_header(lent->block, lent->length);
     came_up(CALL_HEADER, header.refusal.number, header.header.code);
-    DEMAND(header.refusal.number <= SEGD_SKEW);
+    DEMAND(header.refusal.number <= SEGD_SKEW && header.refusal.number != SEGD_DEMUX);
     ask_set(lent, &header, numbers);
     ask_place(lent, &header, numbers);
     ask_index(lent, &header, numbers);
     ask_parts(lent, &header);
     ask_time(lent, &header, numbers);
+}
+
+/* The refusal that a word has to have: its code has no row, or it or its exponent is wider than the row has it. */
+static uint32_t word_fault(const SegdFormat *format, uint32_t c, uint32_t word)
+{
+    if (!format->found)
+        return SEGD_FORMAT;
+    return (uint64_t)word >> (format->width - format->apart) != 0 || c >> format->apart != 0 ? SEGD_INDEX : 0;
 }
 
 void ask_word(uint16_t code, uint32_t c, uint32_t word)
@@ -146,7 +154,7 @@ void ask_word(uint16_t code, uint32_t c, uint32_t word)
     SegdPair pair = segd_packed((uint8_t)word);
     uint32_t number = answer.refusal.number;
     came_up(CALL_WORD, number, code);
-    DEMAND(number == 0 || number == SEGD_INDEX || number == (format.found ? SEGD_DEMUX : SEGD_FORMAT));
+    DEMAND(number == word_fault(&format, c, word));
     DEMAND(number == 0 || (answer.m == 0 && answer.x == 0 && answer.off == 0));
     DEMAND(answer.off <= 1 && pair.found <= 1 && pair.value <= 99);
 }

@@ -5,7 +5,8 @@
  * as the drive hands them over:
  *
  *     SegdOpened opened = segd_open(block, length);
- *     SegdState state = opened.state;                                  refused where opened.refusal.number is not 0
+ *     SegdState state = opened.state;                                  refused where opened.refusal.number is not 0; for these calls
+ *                                                                      where opened.kind is SEGD_SCANS
  *     for each block of the body:
  *         for each portion of the block:
  *             SegdGave gave = segd_portion(state, bytes, n, out, 2 * n);
@@ -15,6 +16,9 @@
  *
  * A stop is kept in the state: once a byte or a block end is refused, every later call on it answers that same refusal and writes
  * nothing. So the loop above needs no test inside. examples/deck.c is this loop as a whole program.
+ *
+ * A record of a code 80xx is demultiplexed: its body has a block for each trace, not scans. Its header block, its questions and its words
+ * are read as those of any record; its body is not read yet.
  *
  * WHAT YOU MAY HAND IN. Bytes of any value, any length (0 too), any number in any question, any state (also one that no call gave).
  * Each call ends, with its answer or with the refusal that stands beside it below; none relies on an earlier check.
@@ -52,13 +56,15 @@ enum {
     /* the header block: looked for in this order */
     SEGD_SHORT = 1,      /* the block has less than 32 bytes */
     SEGD_FORMAT = 2,     /* the format code is not among the twelve */
-    SEGD_DEMUX = 3,      /* it is one of the six 80xx: a demultiplexed record */
+    SEGD_DEMUX = 3,      /* no call gives it: for a program that does not read the body of a demultiplexed record, as the lister does not yet */
     SEGD_DIGIT = 4,      /* a digit of the general header is above 9 */
-    SEGD_RANGE = 5,      /* a value of the general header is out of its range, or the upper half of byte 12 is not zero */
+    SEGD_RANGE = 5,      /* a value of the general header is out of its range (the bytes per scan: 1 to 999,999, in a code 80xx 0), or the
+                            upper half of byte 12 is not zero */
     SEGD_LENGTH = 6,     /* the block has not 32 x [1 + ST/R x (CS + SK) + EC + EX] bytes */
     SEGD_DESCRIPTOR = 7, /* a rule of a descriptor is broken; first: scan type, second: set. 7, then 8, of one descriptor after the other */
-    SEGD_FOUR = 8,       /* code 0015, and the set's channels do not divide by 4; first: scan type, second: set */
-    SEGD_SIZE = 9,       /* the bytes per scan are not those of the channels; first: the first such scan type */
+    SEGD_FOUR = 8,       /* code 0015, and the set's channels do not divide by 4; first: scan type, second: set. Nothing is asked of those of 8015 */
+    SEGD_SIZE = 9,       /* the bytes per scan are not those of the channels; in a code 80xx, the samples of a scan are not as many as in
+                            scan type 1; first: the first such scan type */
     SEGD_SKEW = 10,      /* the skew fields are neither none nor as many as the samples of a scan need */
     /* questions */
     SEGD_INDEX = 11,     /* no such scan type, set, channel, subscan or sample; T of 2^24 or more; a word or c wider than its code's */
@@ -91,15 +97,15 @@ typedef struct {
 
 /* How negatives are kept. */
 enum {
-    SEGD_ONES_COMPLEMENT = 1, /* 0015, 0022, 0024: the fraction is complemented */
-    SEGD_SIGN_MAGNITUDE = 2,  /* 0042, 0044: a sign beside the fraction */
-    SEGD_JUSTIFIED = 3        /* 0048: the same, the fraction left justified in hexadecimal digits */
+    SEGD_ONES_COMPLEMENT = 1, /* 0015, 0022, 0024 and 8015, 8022, 8024: the fraction is complemented */
+    SEGD_SIGN_MAGNITUDE = 2,  /* 0042, 0044 and 8042, 8044: a sign beside the fraction */
+    SEGD_JUSTIFIED = 3        /* 0048 and 8048: the same, the fraction left justified in hexadecimal digits */
 };
 
 typedef struct {
     uint8_t found;     /* 1; or 0, and so is all else: there is no such code */
     uint8_t kind;      /* how negatives are kept */
-    uint32_t width;    /* bits of a sample on tape; in 0015 20, of which 4 stand apart */
+    uint32_t width;    /* bits of a sample on tape; in 0015 and 8015 20, of which 4 stand apart */
     uint32_t apart;    /* those of them that are an exponent apart from the word */
     uint32_t fraction; /* fraction bits */
     uint32_t base;     /* what one more in the exponent adds to X: 1 binary, 2 quaternary, 4 hexadecimal */
@@ -118,9 +124,10 @@ typedef struct {
 } SegdWord;
 
 /*
- * The sample of one word, in the low bits of `word`. `c` is the exponent that stands apart: 4 bits in 0015, where the word is the 16
- * bits after it; in the other codes 0.
- * Refuses, with m, x and off 0: FORMAT 2, DEMUX 3, INDEX 11 (the word or c is wider than its code's), in this order.
+ * The sample of one word, in the low bits of `word`. `c` is the exponent that stands apart: 4 bits in 0015 and 8015, where the word is
+ * the 16 bits after it; in the other codes 0. A word of a code 80xx is read as one of the code without the 8, save that 8015 has 15 bits
+ * of fraction where 0015 has 14 and a bit that is not used: X is c - 15, and FFFF alone is off rule.
+ * Refuses, with m, x and off 0: FORMAT 2, INDEX 11 (the word or c is wider than its code's), in this order.
  */
 SegdWord segd_read_word(uint16_t code, uint32_t c, uint32_t word);
 
@@ -145,7 +152,7 @@ typedef struct {
     uint8_t second;            /* 16 */
     uint8_t manufacturer;      /* 17 */
     uint16_t serial;           /* 18-19 */
-    uint32_t bytes_per_scan;   /* 20-22: B */
+    uint32_t bytes_per_scan;   /* 20-22: B; 0 in the codes 80xx, which have no scans on tape */
     uint8_t interval;          /* 23: I, the base scan interval in 1/16 ms: 1, 2, 4, .. 128 */
     uint8_t polarity;          /* 24, upper half: the paper's code */
     uint8_t block_exponent;    /* 24, lower half: S/BX */
@@ -157,7 +164,7 @@ typedef struct {
     uint8_t skew_fields;       /* 30: SK, in 32 bytes for each scan type; 0: skew is not recorded */
     uint8_t extended_fields;   /* 31: EC, in 32 bytes */
     uint8_t external_fields;   /* 32: EX, in 32 bytes */
-    uint32_t samples_per_scan; /* S/S, by the descriptors: channels x 2^(S/C), summed */
+    uint32_t samples_per_scan; /* S/S, by the descriptors: channels x 2^(S/C), summed; in the codes 80xx up to 506,829,312 */
 } SegdGeneral;
 
 typedef struct {
@@ -167,7 +174,7 @@ typedef struct {
 
 /*
  * The header block's fields. `length` is that of the whole block.
- * Refuses, with all fields 0: the header's refusals, SHORT 1 to SKEW 10, the first of them in their order.
+ * Refuses, with all fields 0: the header's refusals, SHORT 1 to SKEW 10 but DEMUX 3, the first of them in their order.
  */
 SegdHeader segd_read_header(const uint8_t *block, size_t length);
 
@@ -327,14 +334,22 @@ typedef struct {
     uint32_t stopat;    /* and its place */
 } SegdState;
 
+/* What the body of an accepted header is made of. */
+enum {
+    SEGD_SCANS = 1, /* a multiplexed record, 00xx: scans, which the calls below read */
+    SEGD_TRACES = 2 /* a demultiplexed one, 80xx: traces, which are not read yet */
+};
+
 typedef struct {
     SegdTold refusal;
-    SegdState state; /* before the first byte */
+    uint8_t kind;    /* 0 where refused */
+    SegdState state; /* before the first byte of a body of scans; else all 0 */
 } SegdOpened;
 
 /*
- * Opens the body of a header block.
- * Refuses: the header's 1 to 10. The state is then all 0, and every call on it answers STATE 23.
+ * Opens the body of a header block, and says of what kind it is.
+ * Refuses: the header's 1 to 10. The kind is then 0 and the state all 0. It is all 0 for a body of traces too, which is no refusal. Every
+ * call on such a state answers STATE 23.
  */
 SegdOpened segd_open(const uint8_t *block, size_t length);
 

@@ -47,6 +47,7 @@ struct State {
 #[repr(C)]
 struct SegdOpened {
     refusal: Told,
+    kind: u8,
     state: State,
 }
 
@@ -84,6 +85,9 @@ extern "C" {
     fn segd_close(state: State) -> SegdClosing;
 }
 
+/// The kind of a multiplexed record's body.
+const SCANS: u8 = 1;
+
 /// The outcome of a body that stops. One that goes on has 0.
 const STOPPED: u32 = 1;
 
@@ -95,6 +99,7 @@ impl Ours {
     pub fn open(header: &[u8]) -> Ours {
         let opened = unsafe { segd_open(header.as_ptr(), header.len()) };
         assert_eq!(opened.refusal.number, 0, "the header is accepted");
+        assert_eq!(opened.kind, SCANS, "its body is one of scans");
         Ours(opened.state)
     }
 

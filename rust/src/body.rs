@@ -31,19 +31,45 @@ pub struct Report {
 /// The outcome of a call that changed nothing; the others are going on and stopped.
 const REFUSED: u32 = 2;
 
-/// A body being read.
+/// The kind of a body of traces; that of scans is 1.
+const TRACES: u8 = 2;
+
+/// What an accepted header block opens.
+#[derive(Clone, Debug)]
+pub enum Opened {
+    /// The body of a multiplexed record, before its first byte.
+    Scans(Body),
+    /// The body of a demultiplexed record, one of a code 80xx. Its traces are not read yet.
+    Traces,
+}
+
+impl Opened {
+    /// The body, where it is one of scans.
+    pub fn scans(self) -> Option<Body> {
+        match self {
+            Opened::Scans(body) => Some(body),
+            Opened::Traces => None,
+        }
+    }
+}
+
+/// Opens the body of the record that this header block begins.
+///
+/// Refuses as [`crate::read_header`] does.
+pub fn open(block: &[u8]) -> Result<Opened, Refusal> {
+    let opened = ffi::open(block);
+    let body = match opened.kind {
+        TRACES => Opened::Traces,
+        _ => Opened::Scans(Body(opened.state)),
+    };
+    opened.refusal.or(body)
+}
+
+/// A body of scans being read. [`open`] hands it out.
 #[derive(Clone, Debug)]
 pub struct Body(ffi::State);
 
 impl Body {
-    /// The body of the record that this header block begins, before its first byte.
-    ///
-    /// Refuses as [`crate::read_header`] does.
-    pub fn open(block: &[u8]) -> Result<Body, Refusal> {
-        let opened = ffi::open(block);
-        opened.refusal.or(Body(opened.state))
-    }
-
     /// Reads the next bytes of the body. Each sample is written when its last byte comes.
     ///
     /// A stop is an answer: the samples before it are written, and every later call gives the same stop.

@@ -121,6 +121,7 @@ pub struct State {
 #[repr(C)]
 pub struct Opened {
     pub refusal: Told,
+    pub kind: u8,
     pub state: State,
 }
 

@@ -24,7 +24,7 @@ pub struct Header {
     pub manufacturer: u8,
     /// The manufacturer's serial number.
     pub serial: u16,
-    /// B, the bytes of each scan.
+    /// B, the bytes of each scan; 0 in the codes 80xx.
     pub bytes_per_scan: u32,
     /// I, the base scan interval in 1/16 ms.
     pub interval: u8,
@@ -111,7 +111,7 @@ pub fn packed(byte: u8) -> Option<u8> {
 
 /// The fields of a header block.
 ///
-/// Refuses by rows 1 to 10, from [`Refusal::Short`] to [`Refusal::Skew`]; so does whatever else takes a block, before its own refusals.
+/// Refuses by rows 1 to 10 without 3, from [`Refusal::Short`] to [`Refusal::Skew`]; so does whatever else takes a block, before its own refusals.
 pub fn read_header(block: &[u8]) -> Result<Header, Refusal> {
     let read = ffi::read_header(block);
     read.refusal.or(read.header)

@@ -1,7 +1,7 @@
 //! Reel images: a version byte 1, then items, each a length of four bytes (the greatest first) and that many bytes. An item of no
 //! bytes is a file mark, and two in a row end the reel.
 
-use crate::{read_header, Body, Header, Refusal, Report, Sample};
+use crate::{open, read_header, Header, Refusal, Report, Sample};
 
 /// The longest header item that is read.
 const LARGEST_HEADER: usize = 65_536;
@@ -72,13 +72,14 @@ pub struct Reading {
 impl Record<'_> {
     /// Reads the record.
     ///
-    /// Refuses [`Refusal::Large`] where the header item is above 65,536 bytes, then as [`crate::read_header`] does.
+    /// Refuses [`Refusal::Large`] where the header item is above 65,536 bytes, then as [`crate::read_header`] does, then
+    /// [`Refusal::Demux`] where the body is one of traces.
     pub fn read(&self) -> Result<Reading, Refusal> {
         if self.header.len() > LARGEST_HEADER {
             return Err(Refusal::Large);
         }
         let header = read_header(self.header)?;
-        let mut body = Body::open(self.header)?;
+        let mut body = open(self.header)?.scans().ok_or(Refusal::Demux)?;
         let (mut samples, mut count) = (Vec::new(), 0);
         for block in &self.blocks {
             for portion in block.chunks(PORTION) {

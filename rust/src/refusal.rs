@@ -9,11 +9,11 @@ pub enum Refusal {
     Short,
     /// 2: no such format code.
     Format,
-    /// 3: a demultiplexed code, 80xx.
+    /// 3: a demultiplexed record, one of a code 80xx. No call of the library says so; [`crate::reel`] does, which does not read its body yet.
     Demux,
     /// 4: a digit of the general header is above 9.
     Digit,
-    /// 5: a value of the general header is out of its range.
+    /// 5: a value of the general header is out of its range; in the codes 80xx that of the bytes per scan is 0.
     Range,
     /// 6: the block is not as long as its general header says.
     Length,
@@ -24,14 +24,15 @@ pub enum Refusal {
         /// From 1.
         set: u8,
     },
-    /// 8: in 0015 the channels of this set do not divide by 4.
+    /// 8: in 0015 the channels of this set do not divide by 4. Nothing is asked of those of 8015.
     Four {
         /// From 1.
         scan_type: u8,
         /// From 1.
         set: u8,
     },
-    /// 9: the bytes per scan are not what this scan type has, the first such one.
+    /// 9: the bytes per scan are not what this scan type has, the first such one; in the codes 80xx, its samples are not as many as those
+    /// of scan type 1.
     Size {
         /// From 1.
         scan_type: u8,

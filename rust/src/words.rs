@@ -76,9 +76,9 @@ pub fn format(code: u16) -> Option<Format> {
     (row.found == 1).then_some(Format { kind, width, apart, fraction, base, exponent, bias })
 }
 
-/// The sample that a word of a format stands for. In 0015 `c` is its exponent, which stands apart; in the other codes it is 0.
+/// The sample that a word of a format stands for. In 0015 and 8015 `c` is its exponent, which stands apart; in the other codes it is 0.
 ///
-/// Refuses [`Refusal::Format`] and [`Refusal::Demux`] by the code, then [`Refusal::Index`] where `word` or `c` is wider than the code's.
+/// Refuses [`Refusal::Format`] by the code, then [`Refusal::Index`] where `word` or `c` is wider than the code's.
 ///
 /// ```
 /// let word = segd::read_word(0x0048, 0, 0x4110_0000)?;

@@ -2,8 +2,8 @@
 
 mod common;
 
-use common::{case_l, general, set, L_BODY};
-use segd::{Body, Given, Refusal, Report, Sample};
+use common::{case_l, general, scans, set, L_BODY};
+use segd::{Given, Refusal, Report, Sample};
 
 /// A record of 0015, twelve scans of 8 + 4 x 2 samples, in blocks of three.
 fn record() -> (Vec<u8>, Vec<Vec<u8>>) {
@@ -22,7 +22,7 @@ fn record() -> (Vec<u8>, Vec<Vec<u8>>) {
 
 fn read_in_portions(size: usize) -> (Vec<Sample>, Result<Report, Refusal>) {
     let (block, blocks) = record();
-    let mut body = Body::open(&block).expect("an accepted header");
+    let mut body = scans(&block);
     let mut samples = Vec::new();
     for bytes in blocks {
         for portion in bytes.chunks(size) {
@@ -49,7 +49,7 @@ fn a_stop_keeps_what_came_before_and_stays() {
     let mut bytes = L_BODY;
     bytes[18] = 1;
     let stop = Refusal::Timing { place: 19 };
-    let mut body = Body::open(&case_l()).expect("case L");
+    let mut body = scans(&case_l());
     let mut out = [Sample::default(); 24];
     assert_eq!(body.portion(&bytes, &mut out), Ok(Given { samples: 4, stop: Some(stop) }));
     assert_eq!(out[0], Sample { m: 8, x: -2 });
@@ -60,7 +60,7 @@ fn a_stop_keeps_what_came_before_and_stays() {
 
 #[test]
 fn a_portion_without_room_changes_nothing() {
-    let mut body = Body::open(&case_l()).expect("case L");
+    let mut body = scans(&case_l());
     assert_eq!(body.portion(&L_BODY, &mut [Sample::default(); 23]), Err(Refusal::Room));
     let given = body.portion(&L_BODY, &mut [Sample::default(); 24]);
     assert_eq!(given, Ok(Given { samples: 8, stop: None }));
@@ -68,7 +68,7 @@ fn a_portion_without_room_changes_nothing() {
 
 #[test]
 fn closing_early_says_what_is_missing() {
-    let mut body = Body::open(&case_l()).expect("case L");
+    let mut body = scans(&case_l());
     assert_eq!(body.close(), Err(Refusal::Missing));
     assert_eq!(body.portion(&L_BODY[..5], &mut [Sample::default(); 5]).map(|g| g.samples), Ok(0));
     assert_eq!(body.close(), Err(Refusal::Part));
@@ -87,7 +87,7 @@ fn the_report_tells_itb_window_and_last_type() {
     block.extend(set(2, 1, 4, 0));
     let mut bytes = L_BODY;
     (bytes[3], bytes[15]) = (ITB, TWI | SECOND_TYPE);
-    let mut body = Body::open(&block).expect("two scan types");
+    let mut body = scans(&block);
     body.portion(&bytes, &mut [Sample::default(); 24]).expect("room enough");
     body.block_end().expect("one block");
     let report = body.close().expect("whole");

@@ -2,8 +2,8 @@
 
 mod common;
 
-use common::{case_l, general, set, L_BODY};
-use segd::{Body, Header, Kind, Place, Refusal, Sample};
+use common::{case_l, general, scans, set, L_BODY};
+use segd::{Header, Kind, Opened, Place, Refusal, Sample};
 
 fn accepted(block: &[u8]) -> Header {
     segd::read_header(block).expect("an accepted header")
@@ -27,6 +27,17 @@ fn words() {
     assert_eq!(read(0x0015, 15, 0x8000), (-16383, 1, false));
 }
 
+/// 8015 has 15 bits of fraction; the others are as without the 8.
+#[test]
+fn words_of_traces() {
+    assert_eq!(read(0x8015, 15, 0x8000), (-32767, 0, false));
+    assert_eq!(read(0x8015, 0, 0x0001), (1, -15, false));
+    assert_eq!(read(0x8015, 3, 0xFFFF), (0, -12, true));
+    assert_eq!(read(0x8022, 0, 0x97), (-8, -2, false));
+    assert_eq!(read(0x8042, 0, 0xFF), (-31, 7, true));
+    assert_eq!(read(0x8048, 0, 0x4110_0000), (524_288, -19, false));
+}
+
 #[test]
 fn formats() {
     let kind = |code| segd::format(code).map(|format| format.kind);
@@ -42,7 +53,9 @@ fn formats() {
 #[test]
 fn words_refused() {
     assert_eq!(segd::read_word(0x0023, 0, 0), Err(Refusal::Format));
-    assert_eq!(segd::read_word(0x8022, 0, 0), Err(Refusal::Demux));
+    assert_eq!(segd::read_word(0x8023, 0, 0), Err(Refusal::Format));
+    assert_eq!(segd::read_word(0x8022, 0, 0x100), Err(Refusal::Index));
+    assert_eq!(segd::read_word(0x8015, 16, 0), Err(Refusal::Index));
     assert_eq!(segd::read_word(0x0022, 0, 0x100), Err(Refusal::Index));
     assert_eq!(segd::read_word(0x0022, 1, 0), Err(Refusal::Index));
 }
@@ -128,7 +141,7 @@ fn refusals_with_values() {
     let mut block = case_l();
     block[21] = 0x13;
     assert_eq!(segd::read_header(&block), Err(Refusal::Size { scan_type: 1 }));
-    assert_eq!(Body::open(&block).err(), Some(Refusal::Size { scan_type: 1 }));
+    assert_eq!(segd::open(&block).err(), Some(Refusal::Size { scan_type: 1 }));
 }
 
 #[test]
@@ -156,6 +169,23 @@ fn parts_are_the_very_parts() {
     assert_eq!(segd::extended(&block[1..]), Err(Refusal::Format));
 }
 
+/// A demultiplexed record: B is 0, the channels are any, and every scan type has as many samples as the first.
+#[test]
+fn headers_of_traces() {
+    let mut block = general(0x8015, 0, 32, 2, 1, 0);
+    block.extend(set(1, 1, 6, 0));
+    block.extend(set(2, 1, 3, 1));
+    let h = accepted(&block);
+    assert_eq!((h.code, h.bytes_per_scan, h.samples_per_scan), (0x8015, 0, 6));
+    assert!(matches!(segd::open(&block), Ok(Opened::Traces)));
+    let place = Place { set: 1, channel: 3, subscan: 1 };
+    assert_eq!(segd::sample_place(&block, 2, 5), Ok(place));
+    block[64 + 9] = 0x04;
+    assert_eq!(segd::open(&block).err(), Some(Refusal::Size { scan_type: 2 }));
+    block[21] = 0x18;
+    assert_eq!(segd::read_header(&block), Err(Refusal::Range));
+}
+
 #[test]
 fn the_record_of_case_l() {
     let block = case_l();
@@ -163,7 +193,7 @@ fn the_record_of_case_l() {
     assert_eq!((header.file, header.code, header.year, header.day), (7, 0x0022, 80, 45));
     assert_eq!((header.bytes_per_scan, header.interval, header.scan_types), (12, 32, 1));
     let mut samples = [Sample::default(); 24];
-    let mut body = Body::open(&block).expect("case L");
+    let mut body = scans(&block);
     let given = body.portion(&L_BODY, &mut samples).expect("room enough");
     assert_eq!((given.samples, given.stop), (8, None));
     assert_eq!(body.close(), Err(Refusal::Open));
@@ -183,7 +213,7 @@ fn the_timing_word_starts_again() {
     let mut bytes = L_BODY;
     bytes[4..7].copy_from_slice(&[0xFF, 0xF8, 0x00]);
     bytes[16..19].copy_from_slice(&[0x00, 0x00, 0x00]);
-    let mut body = Body::open(&block).expect("an accepted header");
+    let mut body = scans(&block);
     let given = body.portion(&bytes, &mut [Sample::default(); 24]).expect("room enough");
     assert_eq!((given.samples, given.stop), (8, None));
 }

@@ -12,10 +12,10 @@ use crate::make::headers::{damaged_header, header, small_plan, wide_plan, Plan};
 use crate::make::rng::Rng;
 use crate::ours::body as ours;
 use crate::ours::body::{Shape, State};
-use crate::reader::body::Body;
+use crate::reader::body::{kind_of as body_kind, Body, Kind};
 use crate::reader::calls::{answers, uncut, Answer, Call};
 use crate::reader::header::{read_header, Header};
-use crate::reader::words::CODES;
+use crate::reader::words::{CODES, TRACE_CODES};
 use crate::reader::{Refusal, BLOCK, MISSING, OPEN, PART, PHASE, ROOM, STATE, SYNC, TIMING};
 
 pub fn compare(results: &mut Results, effort: Effort) {
@@ -24,6 +24,7 @@ pub fn compare(results: &mut Results, effort: Effort) {
     compare_cut(results, effort, "gapped", 602);
     compare_cut(results, effort, ONE_BLOCK, 603);
     compare_unopened(results, effort);
+    compare_opened_traces(results, effort);
     forged::compare(results, effort);
     limit::compare(results, effort);
     long::compare(results, effort);
@@ -38,8 +39,12 @@ fn fresh_fields(state: State) -> (Shape, [u32; 6]) {
     (shape, [place, ends, off, track.seen, track.twi, stop])
 }
 
-/// The shape that a header's body has, nothing counted.
-fn fresh_state(header: Header) -> State {
+/// The shape that a header's body has, nothing counted. A body of traces has no
+/// state yet: all of it is 0.
+fn fresh_state(header: &Header) -> State {
+    if body_kind(header) == Kind::Traces {
+        return State::default();
+    }
     let shape = Shape {
         code: header.code,
         scan: header.bytes_per_scan,
@@ -50,14 +55,26 @@ fn fresh_state(header: Header) -> State {
     State { shape, ..State::default() }
 }
 
+/// What an opening has to say of an accepted header.
+fn opened(header: &Header) -> (Kind, (Shape, [u32; 6])) {
+    (body_kind(header), fresh_fields(fresh_state(header)))
+}
+
+/// Openings; those of traces are counted apart, so that they have to come up.
 fn compare_openings(results: &mut Results, effort: Effort) {
     let kinds: [(&str, &[u8]); 2] = [("accepted", &[0]), ("header refused", &HEADER_ROWS)];
     let mut sorted = Sorted::new("openings", &kinds);
+    let mut traces = Group::new("openings, of traces", &[0]);
     each_block(results, 601, effort.of(100_000, 1_000_000), |_, _, block| {
-        let wanted = read_header(block).map(fresh_state).map(fresh_fields);
-        sorted.answers(ours::open(block).map(fresh_fields), wanted, || hex(block));
+        let said = ours::open(block).map(|(kind, state)| (kind, fresh_fields(state)));
+        let wanted = read_header(block).map(|header| opened(&header));
+        match wanted {
+            Ok((Kind::Traces, _)) => traces.answers(said, wanted, || hex(block)),
+            _ => sorted.answers(said, wanted, || hex(block)),
+        }
     });
     results.add_sorted(sorted);
+    results.add(traces);
 }
 
 /// The eight bytes before a scan's samples, and a few of those.
@@ -182,7 +199,7 @@ fn compare_cut(results: &mut Results, effort: Effort, shape: &str, seed: u64) {
 /// Opens and puts the calls one after the other, each counted in its group.
 fn ask_each(groups: &mut [Group], kind: fn(&Call) -> usize, block: &[u8], calls: &[Call]) {
     let (_, wanted) = answers(block, calls);
-    let mut state = ours::open(block).unwrap_or_default();
+    let mut state = ours::opened_state(block);
     for (i, call) in calls.iter().enumerate() {
         ask(&mut groups[kind(call)], &mut state, call, &wanted[i], || show(block, &calls[..=i]));
     }
@@ -205,6 +222,21 @@ fn compare_unopened(results: &mut Results, effort: Effort) {
     for n in 0..effort.of(3_000, 60_000) {
         let plan = small_plan(&mut rng, CODES[n as usize % CODES.len()]);
         let block = refused_header(&mut rng, &plan);
+        let body = sound_body(&mut rng, &plan);
+        let calls = cut(&mut rng, &body);
+        ask_each(std::slice::from_mut(&mut group), |_| 0, &block, &calls);
+    }
+    results.add(group);
+}
+
+/// The calls of a sound body of scans on what an opening of traces handed out.
+fn compare_opened_traces(results: &mut Results, effort: Effort) {
+    let mut rng = Rng::new(613);
+    let mut group = Group::new("calls on scans after an opening of traces", &[STATE]);
+    for n in 0..effort.of(1_500, 30_000) as usize {
+        let of_traces = small_plan(&mut rng, TRACE_CODES[n % TRACE_CODES.len()]);
+        let block = header(&mut rng, &of_traces);
+        let plan = small_plan(&mut rng, CODES[n % CODES.len()]);
         let body = sound_body(&mut rng, &plan);
         let calls = cut(&mut rng, &body);
         ask_each(std::slice::from_mut(&mut group), |_| 0, &block, &calls);

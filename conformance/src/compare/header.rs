@@ -6,7 +6,7 @@ use crate::make::headers::{header, small_plan, Plan};
 use crate::make::rng::Rng;
 use crate::ours::header as ours;
 use crate::reader::header::{descriptor, packed, read_header, Header};
-use crate::reader::words::CODES;
+use crate::reader::words::{CODES, TRACE_CODES};
 use crate::reader::{Refusal, FOUR, INDEX, SHORT, SKEW};
 
 /// Two-byte fields, by their name and the place of their first byte from 0. The
@@ -29,7 +29,7 @@ const FIELDS: [(&str, usize); 12] = [
 pub fn compare(results: &mut Results, effort: Effort) {
     compare_pairs(results);
     compare_drawn(results, effort);
-    for code in CODES {
+    for code in CODES.into_iter().chain(TRACE_CODES) {
         compare_each_byte(results, effort, code);
     }
     for (name, place) in FIELDS {
@@ -80,7 +80,8 @@ fn rich_plan(rng: &mut Rng, code: u16) -> Plan {
 }
 
 /// Each byte of a sound header with each value. No byte alone makes it SHORT;
-/// only 0015 knows FOUR; and for SKEW another S/S would have to fit B too.
+/// only 0015 knows FOUR; and for SKEW another S/S would have to fit B too, or the
+/// other scan types.
 fn compare_each_byte(results: &mut Results, effort: Effort, code: u16) {
     let due: Vec<u8> =
         [0].into_iter().chain(HEADER_ROWS).filter(|row| may_come(code, *row)).collect();
@@ -118,7 +119,8 @@ fn ask(group: &mut Group, block: &[u8]) {
 fn compare_field(results: &mut Results, effort: Effort, name: &str, place: usize) {
     let mut group = Group::new(&format!("headers with every {name}"), &[0]);
     let mut rng = Rng::new(203);
-    for code in CODES.into_iter().take(effort.of(1, 6) as usize) {
+    let codes = CODES.into_iter().zip(TRACE_CODES).take(effort.of(1, 6) as usize);
+    for code in codes.flat_map(|(scans, traces)| [scans, traces]) {
         let plan = rich_plan(&mut rng, code);
         let mut block = header(&mut rng, &plan);
         for value in 0..=u16::MAX {

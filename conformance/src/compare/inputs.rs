@@ -4,10 +4,10 @@ use super::Results;
 use crate::make::headers::{damaged_header, header, small_plan, wide_plan, Plan};
 use crate::make::questions::near;
 use crate::make::rng::Rng;
-use crate::reader::words::CODES;
+use crate::reader::words::{in_table, CODES, TRACE_CODES};
 
-/// The rows that a header may be turned away by.
-pub const HEADER_ROWS: [u8; 10] = [1, 2, 3, 4, 5, 6, 7, 8, 9, 10];
+/// The rows that a header may be turned away by. Row 3 is no longer one of them.
+pub const HEADER_ROWS: [u8; 9] = [1, 2, 4, 5, 6, 7, 8, 9, 10];
 
 /// Bytes of a block that are shown.
 const SHOWN: usize = 1_024;
@@ -62,7 +62,14 @@ fn any_block(rng: &mut Rng, plan: &Plan) -> Vec<u8> {
 /// The code that a block has, if it is one of the table's.
 fn code_of(block: &[u8]) -> Option<u16> {
     let code = u16::from_be_bytes(*block.get(2..)?.first_chunk()?);
-    CODES.contains(&(code & 0x7FFF)).then_some(code)
+    in_table(code).then_some(code)
+}
+
+/// The code of the n-th input: each multiplexed code twice for each demultiplexed
+/// one, which has the same header but for B.
+fn code_in_turn(n: u64) -> u16 {
+    let turns = [CODES, CODES, TRACE_CODES];
+    turns[n as usize / 6 % turns.len()][n as usize % 6]
 }
 
 /// Draws blocks, sound and damaged, of each code in turn, and asks about each.
@@ -74,7 +81,7 @@ pub fn each_block(
 ) {
     let mut rng = Rng::new(seed);
     for n in 0..count {
-        let plan = any_plan(&mut rng, CODES[n as usize % CODES.len()]);
+        let plan = any_plan(&mut rng, code_in_turn(n));
         let block = any_block(&mut rng, &plan);
         if let Some(code) = code_of(&block) {
             results.code(code, 1);

@@ -8,7 +8,7 @@ use crate::make::rng::Rng;
 use crate::ours::lister::listing;
 use crate::reader::image::list;
 use crate::reader::words::CODES;
-use crate::reader::{BLOCK, LARGE, MISSING, PHASE, SYNC, TIMING};
+use crate::reader::{BLOCK, DEMUX, LARGE, MISSING, PHASE, SYNC, TIMING};
 use std::thread;
 
 pub fn compare(results: &mut Results, effort: Effort) {
@@ -17,9 +17,10 @@ pub fn compare(results: &mut Results, effort: Effort) {
 }
 
 /// The rows that a body of whole items may be turned away by, and the lister's
-/// own. LONG takes an image of four thousand million bytes; PART and OPEN cannot
-/// be, since every item ends in a block end.
-const BODY_ROWS: [u8; 6] = [BLOCK, SYNC, TIMING, PHASE, MISSING, LARGE];
+/// own, among them DEMUX until it reads bodies of traces. LONG takes an image of
+/// four thousand million bytes; PART and OPEN cannot be, since every item ends in a
+/// block end.
+const BODY_ROWS: [u8; 7] = [BLOCK, SYNC, TIMING, PHASE, MISSING, LARGE, DEMUX];
 
 /// The second word of a refused record's line.
 const REFUSED: &str = "refused";

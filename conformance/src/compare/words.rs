@@ -5,11 +5,9 @@ use crate::make::questions::near;
 use crate::make::rng::Rng;
 use crate::ours::words as ours;
 use crate::ours::words::SegdFormat;
-use crate::reader::words::{count, letters, outer_bits, read_word, CODES};
-use crate::reader::{DEMUX, FORMAT, INDEX};
-
-/// The row of 8015 alone has a bit of fraction where 0015 has a spare one.
-const WIDER_FRACTION: u16 = 0x8015;
+use crate::reader::words::{count, in_table, letters, outer_bits, read_word};
+use crate::reader::words::{CODES, TRACE_CODES};
+use crate::reader::{FORMAT, INDEX};
 
 const INDEX_OR_NOT: [u8; 2] = [0, INDEX];
 
@@ -18,23 +16,23 @@ pub fn compare(results: &mut Results, effort: Effort) {
     compare_absent_rows(results);
     for code in [0x0022, 0x0042, 0x0024, 0x0044, 0x0015] {
         compare_every_word(results, code);
+        compare_every_word(results, code | 0x8000);
     }
-    compare_long_words(results, effort);
+    let long = "words of 0048, every sign and exponent";
+    compare_long_words(results, long, 0x0048, effort.of(36_000, 400_000));
+    let long = "words of 8048, every sign and exponent";
+    compare_long_words(results, long, 0x8048, effort.of(2_000, 100_000));
     compare_wide(results, effort);
-    compare_codes(results, "words of 80xx codes", DEMUX, is_demultiplexed);
-    compare_codes(results, "words of unknown codes", FORMAT, |code| !in_table(code));
+    compare_unknown(results);
 }
 
-fn is_demultiplexed(code: u16) -> bool {
-    code & 0x8000 != 0 && in_table(code)
-}
-
-fn in_table(code: u16) -> bool {
-    CODES.contains(&(code & 0x7FFF))
+/// The twelve codes, each demultiplexed one after its multiplexed one.
+fn all_codes() -> impl Iterator<Item = u16> {
+    CODES.into_iter().zip(TRACE_CODES).flat_map(|(scans, traces)| [scans, traces])
 }
 
 /// A word of the code whose exponent is `c` and all else 0, as the question
-/// takes it: in 0015 the exponent stands apart.
+/// takes it: in 0015 and 8015 the exponent stands apart.
 fn exponent_word(code: u16, c: u32) -> (u32, u32) {
     if outer_bits(code) > 0 {
         (c, 0)
@@ -62,23 +60,22 @@ fn kind(code: u16) -> u8 {
 
 /// A row's columns, out of the reader's letters and what it makes of words.
 fn row(code: u16) -> SegdFormat {
-    let read = code & 0x7FFF;
-    let step = x_of(read, 1) - x_of(read, 0);
-    let fraction = count(read, 'Q');
+    let step = x_of(code, 1) - x_of(code, 0);
+    let fraction = count(code, 'Q');
     SegdFormat {
         found: 1,
-        kind: kind(read),
-        width: letters(read).len() as u32 + outer_bits(read),
-        apart: outer_bits(read),
-        fraction: fraction + u32::from(code == WIDER_FRACTION),
+        kind: kind(code),
+        width: letters(code).len() as u32 + outer_bits(code),
+        apart: outer_bits(code),
+        fraction,
         base: step as u32,
-        exponent: outer_bits(read) + count(read, 'c'),
-        bias: (-(x_of(read, 0) + fraction as i32) / step) as u32,
+        exponent: outer_bits(code) + count(code, 'c'),
+        bias: (-(x_of(code, 0) + fraction as i32) / step) as u32,
     }
 }
 
 fn compare_rows(results: &mut Results) {
-    for code in CODES.into_iter().flat_map(|code| [code, code | 0x8000]) {
+    for code in all_codes() {
         let mut group = Group::new(&format!("row of {code:04X}"), &[0]);
         group.values(ours::format(code), row(code), || format!("code {code:04X}"));
         results.add(group);
@@ -126,24 +123,24 @@ fn edge_tails() -> Vec<u32> {
     [0, 1].into_iter().chain(bits).flat_map(|tail| [tail & !1, tail | 1]).collect()
 }
 
-/// Every sign and exponent of 0048, with all edge fractions and some drawn.
-fn compare_long_words(results: &mut Results, effort: Effort) {
-    let mut group = Group::new("words of 0048, every sign and exponent", &[0]);
-    let (edges, drawn) = (edge_tails(), effort.of(36_000, 400_000));
+/// Every sign and exponent of 0048 or 8048, with all edge fractions and some drawn.
+fn compare_long_words(results: &mut Results, name: &str, code: u16, drawn: u64) {
+    let mut group = Group::new(name, &[0]);
+    let edges = edge_tails();
     let mut rng = Rng::new(101);
     for head in 0..256u32 {
-        edges.iter().for_each(|tail| ask(&mut group, 0x0048, 0, head << 24 | tail));
+        edges.iter().for_each(|tail| ask(&mut group, code, 0, head << 24 | tail));
         for _ in 0..drawn {
-            ask(&mut group, 0x0048, 0, head << 24 | rng.word() >> 8);
+            ask(&mut group, code, 0, head << 24 | rng.word() >> 8);
         }
     }
-    add(results, 0x0048, group);
+    add(results, code, group);
 }
 
 /// Exponents and words of any width, mostly at the edges.
 fn compare_wide(results: &mut Results, effort: Effort) {
     let mut rng = Rng::new(102);
-    for code in CODES {
+    for code in all_codes() {
         let mut group = Group::new(&format!("words of {code:04X}, any width"), &INDEX_OR_NOT);
         let (most_c, most) =
             ((1u32 << outer_bits(code)) - 1, u32::MAX >> (32 - letters(code).len()));
@@ -156,16 +153,13 @@ fn compare_wide(results: &mut Results, effort: Effort) {
 }
 
 /// Codes that have no words to read, with exponents and words of any width.
-fn compare_codes(results: &mut Results, name: &str, due: u8, about: impl Fn(u16) -> bool) {
+fn compare_unknown(results: &mut Results) {
     let mut rng = Rng::new(103);
-    let mut group = Group::new(name, &[due]);
+    let mut group = Group::new("words of unknown codes", &[FORMAT]);
     let widths = [(0, 0xFF), (0, 0xFFFF), (15, 0xFFFF), (0, u32::MAX)];
-    for code in (0..=u16::MAX).filter(|code| about(*code)) {
+    for code in (0..=u16::MAX).filter(|code| !in_table(*code)) {
         for (most_c, most) in widths {
             ask(&mut group, code, near(&mut rng, most_c), near(&mut rng, most));
-        }
-        if in_table(code) {
-            results.code(code, widths.len() as u64);
         }
     }
     results.add(group);

@@ -1,7 +1,7 @@
 //! Header blocks, sound and damaged.
 
 use super::rng::Rng;
-use crate::reader::words::CODES;
+use crate::reader::words::{is_demultiplexed, CODES, TRACE_CODES};
 
 /// A channel set: its channels, none in a dummy set, and its exponent S/C.
 #[derive(Clone, Copy, Debug, PartialEq, Eq)]
@@ -36,8 +36,11 @@ impl Plan {
         self.scan_types[0].iter().map(Set::samples).sum()
     }
 
-    /// B
+    /// B, as it is recorded: 0 in the codes 80xx
     pub fn bytes_per_scan(&self) -> u32 {
+        if is_demultiplexed(self.code) {
+            return 0;
+        }
         8 + self.samples() * half_bytes(self.code) / 2
     }
 
@@ -71,6 +74,7 @@ pub fn plain(code: u16, scan_types: Vec<Vec<Set>>) -> Plan {
     plan
 }
 
+/// Twice the bytes of a sample of a multiplexed code.
 fn half_bytes(code: u16) -> u32 {
     match code {
         0x0015 => 5,
@@ -80,7 +84,7 @@ fn half_bytes(code: u16) -> u32 {
     }
 }
 
-/// Channels come in fours in 0015.
+/// Channels come in fours in 0015, and not in 8015.
 fn channel_unit(code: u16) -> u32 {
     if code == 0x0015 {
         4
@@ -184,13 +188,22 @@ pub fn small_plan(rng: &mut Rng, code: u16) -> Plan {
     any_plan(rng, code, scan_types, sets, most)
 }
 
-/// A plan with up to 99 scan types and sets and B up to its limit. Its blocks
-/// may have any length.
+/// The most samples that a scan can have: those that B can count, and in the codes
+/// 80xx, where nothing counts them, those of 99 sets of the greatest.
+fn most_samples(code: u16) -> u32 {
+    if is_demultiplexed(code) {
+        99 * (9_999 << 9)
+    } else {
+        (999_999 - 8) * 2 / half_bytes(code)
+    }
+}
+
+/// A plan with up to 99 scan types and sets and samples up to their limit. Its
+/// blocks may have any length.
 pub fn wide_plan(rng: &mut Rng, code: u16) -> Plan {
     let scan_types = rng.pick(&[1, 2, 9, 50, 99]);
     let sets = rng.pick(&[1, 3, 20, 99]);
-    let limit = (999_999 - 8) * 2 / half_bytes(code);
-    let most = rng.pick(&[100, 3_168, 10_000, limit]);
+    let most = rng.pick(&[100, 3_168, 10_000, most_samples(code)]);
     let mut plan = any_plan(rng, code, scan_types, sets, most);
     plan.extended_fields = rng.pick(&[0, 1, 99]);
     plan.external_fields = rng.pick(&[0, 1, 99]);
@@ -206,9 +219,14 @@ pub fn largest_plan(rng: &mut Rng, code: u16) -> Plan {
     Plan { skew_fields: 0, extended_fields: rng.range(0, 1), external_fields: 0, ..plan }
 }
 
-/// One of the six codes.
+/// One of the six multiplexed codes.
 pub fn any_code(rng: &mut Rng) -> u16 {
     rng.pick(&CODES)
+}
+
+/// One of the six demultiplexed codes.
+pub fn any_trace_code(rng: &mut Rng) -> u16 {
+    rng.pick(&TRACE_CODES)
 }
 
 /// A number from 0 to 99 as a packed pair.
@@ -299,11 +317,11 @@ fn scribble(rng: &mut Rng, block: &mut [u8]) {
     }
 }
 
-/// Another code: demultiplexed, near to one of the twelve, or any.
+/// Another code: of the six or of the other six, near to one of them, or any.
 fn change_code(rng: &mut Rng, block: &mut [u8]) {
     let code = any_code(rng);
     let changed = match rng.below(4) {
-        0 => code | 0x8000,
+        0 => any_trace_code(rng),
         1 => code ^ (1 << rng.below(16)),
         2 => code,
         _ => rng.word() as u16,
@@ -372,6 +390,12 @@ fn spoil_descriptor(rng: &mut Rng, plan: &Plan, block: &mut [u8]) {
     };
 }
 
+/// Sets the channels of a descriptor anew: FOUR in 0015, else mostly SIZE.
+fn spoil_channels(rng: &mut Rng, plan: &Plan, block: &mut [u8]) {
+    let place = descriptor_byte(rng, plan, 10);
+    block[place] = pair(rng.range(0, 99));
+}
+
 /// Another B.
 fn spoil_size(rng: &mut Rng, block: &mut [u8]) {
     let place = 19 + rng.index(3);
@@ -381,7 +405,7 @@ fn spoil_size(rng: &mut Rng, block: &mut [u8]) {
 /// A header block of the plan with some damage, which may happen to be none.
 pub fn damaged_header(rng: &mut Rng, plan: &Plan) -> Vec<u8> {
     let mut block = header(rng, plan);
-    match rng.below(9) {
+    match rng.below(10) {
         0 => scribble(rng, &mut block),
         1 => scribble(rng, &mut block[..32]),
         2 => change_code(rng, &mut block),
@@ -390,6 +414,7 @@ pub fn damaged_header(rng: &mut Rng, plan: &Plan) -> Vec<u8> {
         5 => spoil_length(rng, &mut block),
         6 => spoil_descriptor(rng, plan, &mut block),
         7 => spoil_size(rng, &mut block),
+        8 => spoil_channels(rng, plan, &mut block),
         _ => block = wrong_skew(rng, plan),
     }
     block

@@ -1,7 +1,8 @@
 //! Reel images.
 
 use super::bodies::{damaged_body, sound_body};
-use super::headers::{any_code, damaged_header, header, largest_plan, small_plan, wide_plan};
+use super::headers::{any_code, any_trace_code, damaged_header, header};
+use super::headers::{largest_plan, small_plan, wide_plan};
 use super::records::Record;
 use super::rng::Rng;
 
@@ -39,7 +40,19 @@ pub fn file((block, body): Record) -> File {
     parts.filter(|bytes| !bytes.is_empty()).collect()
 }
 
-/// A file that may be sound, damaged or too large.
+/// A header of a demultiplexed record, mostly sound.
+fn trace_header(rng: &mut Rng) -> Vec<u8> {
+    let code = any_trace_code(rng);
+    let plan = small_plan(rng, code);
+    if rng.once_in(3) {
+        damaged_header(rng, &plan)
+    } else {
+        header(rng, &plan)
+    }
+}
+
+/// A file that may be sound, damaged or too large. Bodies of traces are not read
+/// yet, so a header that announces one is followed by scans.
 pub fn any_file(rng: &mut Rng) -> File {
     let code = any_code(rng);
     let plan = if rng.once_in(40) { largest_plan(rng, code) } else { small_plan(rng, code) };
@@ -51,6 +64,7 @@ pub fn any_file(rng: &mut Rng) -> File {
             header(rng, &wide)
         }
         3..=8 => damaged_header(rng, &plan),
+        9..=11 => trace_header(rng),
         _ => header(rng, &plan),
     };
     file((block, body))

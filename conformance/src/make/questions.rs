@@ -27,7 +27,7 @@ fn any_bits(rng: &mut Rng, bits: u32) -> u32 {
     }
 }
 
-/// An exponent and a word for one of the six codes, at times too wide.
+/// An exponent and a word for one of the twelve codes, at times too wide.
 pub fn any_word(rng: &mut Rng, code: u16) -> (u32, u32) {
     let c = rng.below(1 << outer_bits(code)) as u32;
     let word = any_bits(rng, letters(code).len() as u32);

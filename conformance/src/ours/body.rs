@@ -1,7 +1,7 @@
 //! The body: opening, portions, block ends and closing over a state of numbers.
 
 use super::{row, unfold, Told};
-use crate::reader::body::Report;
+use crate::reader::body::{Kind, Report};
 use crate::reader::calls::{Answer, Call};
 use crate::reader::Refusal;
 
@@ -54,6 +54,8 @@ pub struct State {
 #[repr(C)]
 struct SegdOpened {
     refusal: Told,
+    /// 0 where refused, 1 for scans, 2 for traces
+    kind: u8,
     state: State,
 }
 
@@ -104,10 +106,20 @@ const UNTOUCHED: i32 = 0x5AA5_5AA5;
 /// Numbers kept after the output lent, to see that no call writes there.
 const BEYOND: usize = 4;
 
-/// A refused opening has to hand out a state that is all 0.
-pub fn open(block: &[u8]) -> Result<State, Refusal> {
+/// The kind of the body and the state before its first byte. A refused opening has
+/// to hand out neither, and one of traces a state that is all 0.
+pub fn open(block: &[u8]) -> Result<(Kind, State), Refusal> {
     let opened = unsafe { segd_open(block.as_ptr(), block.len()) };
-    unfold(opened.refusal, opened.state, Some)
+    unfold(opened.refusal, (opened.kind, opened.state), |(kind, state)| match kind {
+        1 => Some((Kind::Scans, state)),
+        2 => (state == State::default()).then_some((Kind::Traces, state)),
+        _ => None,
+    })
+}
+
+/// The state that an opening hands out, refused or not.
+pub fn opened_state(block: &[u8]) -> State {
+    open(block).map(|(_, state)| state).unwrap_or_default()
 }
 
 fn demand(sound: bool, told: impl Fn() -> String) -> Result<(), String> {

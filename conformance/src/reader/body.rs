@@ -4,9 +4,32 @@
 
 use super::header::{read_header, Header};
 use super::layout::{exponent_start, word_length, word_start};
-use super::words::read_word;
-use super::{refusal, refusal_with, Refusal};
-use super::{BLOCK, LONG, MISSING, OPEN, PART, PHASE, SYNC, TIMING};
+use super::words::{is_demultiplexed, read_word};
+use super::{demand, refusal, refusal_with, Refusal};
+use super::{BLOCK, LONG, MISSING, OPEN, PART, PHASE, STATE, SYNC, TIMING};
+
+/// What a body is made of.
+#[derive(Clone, Copy, Debug, PartialEq, Eq)]
+pub enum Kind {
+    /// multiplexed: scans, each with a sample of every channel
+    Scans,
+    /// demultiplexed: traces, each with all samples of a channel
+    Traces,
+}
+
+/// The kind of body that an accepted header has.
+pub fn kind_of(header: &Header) -> Kind {
+    if is_demultiplexed(header.code) {
+        Kind::Traces
+    } else {
+        Kind::Scans
+    }
+}
+
+/// Opening a body: the header's refusals, or the kind of the body.
+pub fn open(block: &[u8]) -> Result<Kind, Refusal> {
+    read_header(block).map(|header| kind_of(&header))
+}
 
 /// The blocks that have their ends, then the bytes after the last block end.
 #[derive(Clone, Debug, Default, PartialEq, Eq)]
@@ -287,9 +310,12 @@ impl Whole {
     }
 }
 
-/// Reads a whole body. A refused header is a refused opening.
+/// Reads a whole body of scans. A refused header is a refused opening. A body of
+/// traces has no state that these rules could go on from, which is STATE.
 pub fn read_body(block: &[u8], body: &Body) -> Result<Reading, Refusal> {
-    let whole = Whole::new(read_header(block)?, body);
+    let header = read_header(block)?;
+    demand(kind_of(&header) == Kind::Scans, STATE)?;
+    let whole = Whole::new(header, body);
     let stop = whole.stop();
     let limit = stop.map_or(whole.length(), |stop| stop.place.into());
     let samples = whole.samples_before(limit);

@@ -2,7 +2,7 @@
 //!
 //! A call is judged by where it lies: the bytes and the block ends before it.
 
-use super::body::{read_body, Body, Cause, Reading, Report, Sample, Stop};
+use super::body::{open, read_body, Body, Cause, Kind, Reading, Report, Sample, Stop};
 use super::{refusal, Refusal, ROOM, STATE};
 
 /// A call on an opened state. `room` is the length of the output lent.
@@ -101,17 +101,12 @@ fn closing(block: &[u8], calls: &[Call]) -> Result<Report, Refusal> {
     read_body(block, &uncut(calls))?.closing
 }
 
-/// The opening's refusal, if any, and every call's answer. After a refused
-/// opening the state is unfit and every call answers so.
-pub fn answers(block: &[u8], calls: &[Call]) -> (Option<Refusal>, Vec<Answer>) {
-    match read_body(block, &uncut(calls)) {
-        Ok(reading) => {
-            let each = (0..calls.len()).map(|i| answer(block, calls, i, &reading)).collect();
-            (None, each)
-        }
-        Err(opening) => {
-            let each = calls.iter().map(|call| refused(call, refusal(STATE))).collect();
-            (Some(opening), each)
-        }
-    }
+/// The opening's answer, and every call's. After a refused opening, and after that
+/// of a body of traces, the state is unfit and every call answers so.
+pub fn answers(block: &[u8], calls: &[Call]) -> (Result<Kind, Refusal>, Vec<Answer>) {
+    let each = match read_body(block, &uncut(calls)) {
+        Ok(reading) => (0..calls.len()).map(|i| answer(block, calls, i, &reading)).collect(),
+        Err(_) => calls.iter().map(|call| refused(call, refusal(STATE))).collect(),
+    };
+    (open(block), each)
 }

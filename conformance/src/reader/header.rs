@@ -2,7 +2,7 @@
 //!
 //! Bytes are numbered from 1 here, as the description numbers them.
 
-use super::words::check_code;
+use super::words::{check_code, is_demultiplexed};
 use super::{demand, refusal_with, Refusal};
 use super::{DESCRIPTOR, DIGIT, FOUR, INDEX, LENGTH, RANGE, SHORT, SIZE, SKEW};
 
@@ -20,7 +20,7 @@ pub struct Header {
     pub second: u32,
     pub manufacturer: u32,
     pub serial: u32,
-    /// B
+    /// B; 0 in the codes 80xx
     pub bytes_per_scan: u32,
     /// I, in 1/16 ms
     pub interval: u32,
@@ -140,6 +140,12 @@ fn general(block: &[u8]) -> Header {
     }
 }
 
+/// B is from 1 on; a record that is kept trace by trace has no scans on tape, and
+/// records B as 0.
+fn scan_bytes_sound(header: &Header) -> bool {
+    (header.bytes_per_scan == 0) == is_demultiplexed(header.code)
+}
+
 /// The values that digits alone do not keep in range. A day whose first half is
 /// not zero is out of range whatever it comes to.
 fn ranges_sound(block: &[u8], header: &Header) -> bool {
@@ -148,7 +154,7 @@ fn ranges_sound(block: &[u8], header: &Header) -> bool {
         && header.hour <= 23
         && header.minute <= 59
         && header.second <= 59
-        && header.bytes_per_scan >= 1
+        && scan_bytes_sound(header)
         && [1, 2, 4, 8, 16, 32, 64, 128].contains(&header.interval)
         && header.scan_types >= 1
         && header.sets >= 1
@@ -216,7 +222,9 @@ fn describe(bytes: &[u8]) -> Descriptor {
     }
 }
 
-/// One descriptor: its own rules first, then the division by four of 0015.
+/// One descriptor: its own rules first, then the division by four of 0015. In
+/// 8015 four samples of one channel stand together, so that nothing is asked of
+/// the channels.
 fn check_descriptor(
     block: &[u8],
     header: &Header,
@@ -258,7 +266,8 @@ fn samples(block: &[u8], header: &Header, scan_type: u32) -> u64 {
     descriptors(block, header, scan_type).iter().map(set_samples).sum()
 }
 
-/// Twice the bytes of a sample, so that 0015's two and a half is whole.
+/// Twice the bytes of a sample of a multiplexed code, so that 0015's two and a half
+/// is whole.
 fn half_bytes(code: u16) -> u64 {
     match code {
         0x0015 => 5,
@@ -268,15 +277,23 @@ fn half_bytes(code: u16) -> u64 {
     }
 }
 
-/// Formula E2 in each scan type, doubled; the first that differs is named.
-fn check_sizes(block: &[u8], header: &Header) -> Result<(), Refusal> {
-    let doubled = 2 * u64::from(header.bytes_per_scan);
-    for scan_type in 1..=header.scan_types {
-        if doubled != 16 + samples(block, header, scan_type) * half_bytes(header.code) {
-            return Err(refusal_with(SIZE, &[scan_type]));
-        }
+/// Formula E2 in one scan type, doubled; without bytes per scan to compare with,
+/// the samples of a scan are those of scan type 1.
+fn size_sound(block: &[u8], header: &Header, scan_type: u32) -> bool {
+    let samples = |scan_type| samples(block, header, scan_type);
+    if is_demultiplexed(header.code) {
+        samples(scan_type) == samples(1)
+    } else {
+        2 * u64::from(header.bytes_per_scan) == 16 + samples(scan_type) * half_bytes(header.code)
     }
-    Ok(())
+}
+
+/// The size of each scan type; the first that is wrong is named.
+fn check_sizes(block: &[u8], header: &Header) -> Result<(), Refusal> {
+    match (1..=header.scan_types).find(|scan_type| !size_sound(block, header, *scan_type)) {
+        Some(scan_type) => Err(refusal_with(SIZE, &[scan_type])),
+        None => Ok(()),
+    }
 }
 
 /// SK is nothing or formula E3.

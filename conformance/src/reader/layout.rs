@@ -3,7 +3,7 @@
 
 use super::header::{check_scan_type, descriptors, header_length, read_header};
 use super::header::{scan_type_offset, set_samples, Descriptor, Header};
-use super::words::letters;
+use super::words::{grouped, letters};
 use super::{demand, Refusal, INDEX, SHEET};
 
 /// Which of the two lent slices a skew part belongs to.
@@ -59,7 +59,7 @@ fn sample_asked(block: &[u8], scan_type: u32, k: u32) -> Result<Header, Refusal>
     Ok(header)
 }
 
-/// Bytes of the word of a sample; in 0015 without the group's exponents.
+/// Bytes of the word of a sample; in 0015 and 8015 without the group's exponents.
 pub fn word_length(code: u16) -> u32 {
     letters(code).len() as u32 / 8
 }
@@ -67,16 +67,17 @@ pub fn word_length(code: u16) -> u32 {
 /// Where the word of sample k starts in its scan, from 0. Eight bytes come
 /// first. In 0015 each four samples are two bytes of exponents and four words.
 pub fn word_start(code: u16, k: u32) -> u32 {
-    match code {
-        0x0015 => 8 + 10 * (k / 4) + 2 + 2 * (k % 4),
-        _ => 8 + k * word_length(code),
+    if grouped(code) {
+        8 + 10 * (k / 4) + 2 + 2 * (k % 4)
+    } else {
+        8 + k * word_length(code)
     }
 }
 
 /// In 0015, the byte in the scan that holds sample k's exponent, and whether it
 /// is the upper half. The four of a group stand in the order of the samples.
 pub fn exponent_start(code: u16, k: u32) -> Option<(u32, bool)> {
-    (code == 0x0015).then(|| (8 + 10 * (k / 4) + k % 4 / 2, k.is_multiple_of(2)))
+    grouped(code).then(|| (8 + 10 * (k / 4) + k % 4 / 2, k.is_multiple_of(2)))
 }
 
 /// The byte place of sample k's word in a scan and its length, as a question.

@@ -9,6 +9,7 @@ pub mod words;
 
 pub const SHORT: u8 = 1;
 pub const FORMAT: u8 = 2;
+/// The lister's alone, until it reads bodies of traces.
 pub const DEMUX: u8 = 3;
 pub const DIGIT: u8 = 4;
 pub const RANGE: u8 = 5;

@@ -1,6 +1,6 @@
--- Demand 3: from any header block that is accepted, and whatever the calls, the reader does what the rules say of the body that the calls spell.
+-- Demand 3: from any header block of a multiplexed code that is accepted, and whatever the calls, the reader does what the rules say of the body that the calls spell.
 -- Assumes nothing.
-use Prim.Native.Nat.{ℕ, zero, suc, _-_, _*_}
+use Prim.Native.Nat.{ℕ, zero, suc, _-_, _*_, _<_}
 use mathlib.Core.Path.{_≡_, refl, sym, ap, _∙_, subst}
 use mathlib.Core.Bool.{Bool, true, false}
 use mathlib.Core.List.{List, [], _∷_, _++_}
@@ -20,7 +20,10 @@ use Rattle.header.specs.Answers.{headerOf, headerAnswer}
 use Rattle.scan.specs.declared.State.{State}
 use Rattle.scan.specs.Fit.{fitb}
 use Rattle.stream.specs.declared.Answer.{Answer as Given}
-use Rattle.body.proofs.Opens.{took, open-fit, unfit-not}
+use Rattle.body.proofs.Opens.{took, opens-scans, opens-traces, open-fit, unfit-not}
+use Rattle.body.specs.declared.Opened.{Opened}
+use Rattle.body.specs.declared.Opening.{Opening}
+use Rattle.body.specs.declared.Opening.the-variants.{Traces, Refused}
 use Rattle.stream.specs.Calls as K
 use Rattle.body.specs.Ends as N
 use Rattle.body.specs.Open as O
@@ -30,7 +33,7 @@ use Rattle.rules.specs.Samples.{numbersAt}
 use Rattle.rules.specs.Outcome.{stopOf, doneOf, numbersOf, closing}
 use Rattle.agree.specs.Calls.{Call, put, end, Bytes, BytesIn, Reading, readOn, readingOf, taken, bodyOf}
 use Rattle.agree.specs.Answers.{answerFrom, answerTo, closedOf}
-use Rattle.agree.specs.Agreement.{Agreement, TurnedAway}
+use Rattle.agree.specs.Agreement.{Agreement, Unopened, TurnedAway, NoScans}
 use Rattle.agree.proofs.Plans.{scan}
 use Rattle.agree.proofs.Form.{headOf}
 use Rattle.agree.proofs.Whole.{stopIn, AgreesAt, agree-pieces}
@@ -51,19 +54,19 @@ samples-length sh d = twice (numbersAt sh _) (λ i. refl) (doneOf sh d)
 by-stops : {u v u′ v′ : Fault} {a : Given} (n : ℕ) → u ≡ u′ → v ≡ v′ → a ≡ answerFrom u v n → a ≡ answerFrom u′ v′ n
 by-stops {u} {v} {u′} {v′} {a} n p q e = subst (λ (x : Fault). a ≡ answerFrom x v′ n) p (subst (λ (y : Fault). a ≡ answerFrom u y n) q e)
 
-module _ (b : List ℕ) (bytes : Bytes b) (clear : headerFault b ≡ Clear) where
+module _ (b : List ℕ) (bytes : Bytes b) (clear : headerFault b ≡ Clear) (m : codeOf b < 0x8000) where
   opened-state : O.opened b .state ≡ O.fresh (headOf (planOf b))
-  unfolding O.opened headerAnswer headerOf O.shapeOf scansPerBlock
+  unfolding headerAnswer headerOf O.shapeOf scansPerBlock
   opened-state =
-      rw clear
-      (ap O.fresh (λ i. record { code = codeOf b; scan = scan-same b clear i; advance = top i; types = scanTypes b; block = scansPerBlock b }))
+      ap (λ (x : Opened). x .state) (opens-scans b (headerOf b) (rw clear) m)
+      ∙ ap O.fresh (λ i. record { code = codeOf b; scan = scan-same b clear m i; advance = top i; types = scanTypes b; block = scansPerBlock b })
     where
       top : 4096 * intervalOf b ≡ 16 * intervalOf b * 256
       top = omega arith
 
   opened-fits : fitb (O.opened b .state) ≡ true
   unfolding headerAnswer byte
-  opened-fits = open-fit b (headerOf b) (λ n. below b bytes (n - 1)) (rw clear)
+  opened-fits = open-fit b (headerOf b) (λ n. below b bytes (n - 1)) (rw clear) m
 
   abbrev opening : Reading
   opening = record { state = O.opened b .state; numbers = [] }
@@ -78,17 +81,17 @@ module _ (b : List ℕ) (bytes : Bytes b) (clear : headerFault b ≡ Clear) wher
   fits cs = read-fits opening opened-fits cs
 
   samples-at : (cs : List Call) → BytesIn cs → readingOf b cs .numbers ≡ numbersOf (shapeOf b) (bodyOf cs)
-  samples-at cs h = at cs h .samples ∙ ap (λ (sh : Shape). numbersOf sh (bodyOf cs)) (sym (shape-same b clear))
+  samples-at cs h = at cs h .samples ∙ ap (λ (sh : Shape). numbersOf sh (bodyOf cs)) (sym (shape-same b clear m))
 
   stops-at : (cs : List Call) → BytesIn cs → stopIn (readingOf b cs .state) ≡ stopOf (shapeOf b) (bodyOf cs)
-  stops-at cs h = at cs h .stops ∙ ap (λ (sh : Shape). stopOf sh (bodyOf cs)) (sym (shape-same b clear))
+  stops-at cs h = at cs h .stops ∙ ap (λ (sh : Shape). stopOf sh (bodyOf cs)) (sym (shape-same b clear m))
 
   length-at : (cs : List Call) → BytesIn cs → length (readingOf b cs .numbers) ≡ 2 * doneOf (shapeOf b) (bodyOf cs)
   length-at cs h = ap length (samples-at cs h) ∙ samples-length (shapeOf b) (bodyOf cs)
 
   closes-at : (cs : List Call) → BytesIn cs → N.close (readingOf b cs .state) ≡ closedOf (closing (shapeOf b) (bodyOf cs))
   unfolding N.close pick
-  closes-at cs h = rw (fits cs) (at cs h .closes ∙ ap (λ (sh : Shape). closedOf (closing sh (bodyOf cs))) (sym (shape-same b clear)))
+  closes-at cs h = rw (fits cs) (at cs h .closes ∙ ap (λ (sh : Shape). closedOf (closing sh (bodyOf cs))) (sym (shape-same b clear m)))
 
   -- ---- each call's own answer
   bytes-more : (cs : List Call) (c : Call) → BytesIn cs → BytesIn (c ∷ []) → BytesIn (cs ++ (c ∷ []))
@@ -129,26 +132,34 @@ module _ (b : List ℕ) (bytes : Bytes b) (clear : headerFault b ≡ Clear) wher
         let n : doneOf (shapeOf b) (bodyOf (cs ++ (end ∷ []))) - doneOf (shapeOf b) (bodyOf cs) ≡ 0 = omega (arith, more end tt, length-at cs h) in
         rw n (by-stops 0 (stops-at cs h) (stop-more end tt) (end-answer now (fits cs)))
 
--- From every header block that is accepted, and whatever the calls.
+-- From every header block of a multiplexed code that is accepted, and whatever the calls.
 pub agreement : Agreement
-agreement b bytes h e cs l =
+agreement b bytes h e m cs l =
     let c = took b h e .clear in
     record {
-      fit = fits b bytes c cs;
-      samples = samples-at b bytes c cs l;
-      portions = portion-at b bytes c cs l;
-      ends = end-at b bytes c cs l;
-      closes = closes-at b bytes c cs l;
+      fit = fits b bytes c m cs;
+      samples = samples-at b bytes c m cs l;
+      portions = portion-at b bytes c m cs l;
+      ends = end-at b bytes c m cs l;
+      closes = closes-at b bytes c m cs l;
     }
 
--- A header block that is turned away opens nothing.
-pub turned-away : TurnedAway
-unfolding O.opened K.portion K.portionWrote N.blockEnd N.close pick
-turned-away b r e =
+-- An all-zero state is read by no call.
+unopened : (b : List ℕ) (a : Opening) → O.opened b ≡ record { state = O.unfit; answer = a } → Unopened b a
+unfolding K.portion K.portionWrote N.blockEnd N.close pick
+unopened b a e =
     record {
-      opening = rw e;
+      opening = e;
       portions = λ bs room. rw unfit-not;
       writes = λ bs room. rw unfit-not;
       ends = rw unfit-not;
       closes = rw unfit-not;
     }
+
+-- A header block that is turned away opens nothing, and a demultiplexed one no body of scans.
+pub turned-away : TurnedAway
+unfolding O.opened
+turned-away b r e = unopened b (Refused r) (rw e)
+
+pub no-scans : NoScans
+no-scans b h e m = unopened b Traces (opens-traces b h e m)

@@ -1,15 +1,15 @@
 -- What an accepted header is, and which openings are fit.
 -- Assumes nothing.
 use Prim.Native.Nat.{ℕ, _-_, _*_, _/_, _%_, _^_, _≤_, _<_}
-use mathlib.Core.Path.{_≡_, refl, ap, _∙_, subst}
+use mathlib.Core.Path.{_≡_, refl, sym, ap, _∙_, subst}
 use mathlib.Core.Bool.{true, false}
 use mathlib.Core.List.{List}
 use native.Mathlib.Nat.{mul-mod-left, mul-le-mul-left, mul-le-mul-right, le-trans}
 use native.Mathlib.Omega.{arith}
 use lib.Dec.{leb·zero}
 use lib.Pow.{pow-mono}
-use borrow.Author.Tests.{le-leb, lt-ltb, eq-eqb}
-use Rattle.basis.specs.Choice.{_and_, _or_}
+use borrow.Author.Tests.{le-leb, lt-leb, lt-ltb, eq-eqb}
+use Rattle.basis.specs.Choice.{pick, _and_, _or_}
 use Rattle.refusals.specs.declared.Refusal.{Refusal}
 use Rattle.refusals.specs.declared.Fault.{Fault}
 use Rattle.refusals.specs.declared.Fault.the-variants.{Clear, At}
@@ -22,9 +22,10 @@ use Rattle.header.specs.declared.Answer.{Answer}
 use Rattle.header.specs.declared.Answer.the-variants.{Accepted, Refused}
 use Rattle.header.specs.Faults.{headerFault}
 use Rattle.header.specs.Answers.{headerOf, headerAnswer, answerAfter}
-use Rattle.header.proofs.Accepted.{accepted, multiplexed, types-few, interval-is, scan-is, first-type, sizes, scan-in-groups}
+use Rattle.header.proofs.Accepted.{accepted, types-few, interval-is, scan-is, first-type, sizes, scan-in-groups}
 use Rattle.scan.specs.declared.Shape.{Shape}
 use Rattle.scan.specs.Fit.{fitb, fitBy, countsb, trackb, shapeb, shapeBy, wholeb, limitsb, stopb}
+use Rattle.body.specs.declared.Opening.the-variants.{Scans, Traces}
 use Rattle.body.specs.Open.{shapeOf, fresh, unfit, opened}
 use Rattle.stream.proofs.Readers.{row-some}
 
@@ -62,14 +63,14 @@ pub unfit-not : fitb unfit ≡ false
 unfolding unfit fresh fitb fitBy countsb trackb stopb _or_ shapeBy _and_
 unfit-not = refl
 
--- an accepted header has a fit shape, where the block's numbers are bytes
-module _ (b : List ℕ) (e : headerFault b ≡ Clear) (l : (n : ℕ) → byte b n < 256) where
+-- an accepted header of a multiplexed code has a fit shape, where the block's numbers are bytes
+module _ (b : List ℕ) (e : headerFault b ≡ Clear) (m : codeOf b < 0x8000) (l : (n : ℕ) → byte b n < 256) where
   some-group : 0 < groupOf (codeOf b)
   some-group = row-some (codeOf b) (accepted b e .general .known .row) (accepted b e .general .known .found)
 
   whole-scans : (bytesPerScan b - 8) % groupOf (codeOf b) ≡ 0
   whole-scans =
-      let g = scan-in-groups b e (multiplexed b e) 0 (first-type b e) .size in
+      let g = scan-in-groups b e m 0 (first-type b e) .size in
       let k : bytesPerScan b - 8 ≡ samplesOf b 0 / perOf (codeOf b) * groupOf (codeOf b) = rw (sizes b e .sum) (omega (arith, g)) in
       rw k (mul-mod-left (samplesOf b 0 / perOf (codeOf b)) (groupOf (codeOf b)))
 
@@ -87,14 +88,14 @@ module _ (b : List ℕ) (e : headerFault b ≡ Clear) (l : (n : ℕ) → byte b 
   pub accepted-shape : shapeb (shapeOf (headerOf b)) ≡ true
   unfolding shapeOf headerOf shapeb shapeBy wholeb limitsb _and_
   accepted-shape =
-      let s = scan-is b e (multiplexed b e) in
+      let s = scan-is b e m in
       let t = types-few b e in
       rw (
         le-leb 8 (bytesPerScan b) (s .0),
         le-leb (bytesPerScan b) 999999 (s .1),
         lt-ltb 0 (groupOf (codeOf b)) some-group,
         eq-eqb ((bytesPerScan b - 8) % groupOf (codeOf b)) 0 whole-scans,
-        lt-ltb (codeOf b) 0x8000 (multiplexed b e),
+        lt-ltb (codeOf b) 0x8000 m,
         eq-eqb (4096 * intervalOf b % 256) 0 (omega arith),
         le-leb (4096 * intervalOf b) 524288 (omega (arith, interval-small)),
         le-leb 1 (scanTypes b) (t .0),
@@ -102,12 +103,25 @@ module _ (b : List ℕ) (e : headerFault b ≡ Clear) (l : (n : ℕ) → byte b 
         le-leb (blockScans b * 2 ^ blockExponent b) 8355840 few-scans,
       )
 
--- every opening on an accepted header is fit, and every refused one is not
-pub open-fit : (b : List ℕ) (h : Header) → ((n : ℕ) → byte b n < 256) → headerAnswer b ≡ Accepted h → fitb (opened b .state) ≡ true
-unfolding opened
-open-fit b h l e =
+-- an accepted header's code
+pub code-is : (b : List ℕ) (h : Header) → headerAnswer b ≡ Accepted h → h .code ≡ codeOf b
+unfolding headerOf
+code-is b h e = ap (λ (x : Header). x .code) (sym (took b h e .fields))
+
+-- the opening of a body of scans, and that of a demultiplexed record
+pub opens-scans : (b : List ℕ) (h : Header) → headerAnswer b ≡ Accepted h → codeOf b < 0x8000 → opened b ≡ record { state = fresh (shapeOf h); answer = Scans }
+unfolding opened pick
+opens-scans b h e m = rw (e, code-is b h e, lt-leb 0x8000 (codeOf b) m)
+
+pub opens-traces : (b : List ℕ) (h : Header) → headerAnswer b ≡ Accepted h → 0x8000 ≤ codeOf b → opened b ≡ record { state = unfit; answer = Traces }
+unfolding opened pick
+opens-traces b h e m = rw (e, code-is b h e, le-leb 0x8000 (codeOf b) m)
+
+-- every opening on an accepted header of a multiplexed code is fit, and every refused one is not
+pub open-fit : (b : List ℕ) (h : Header) → ((n : ℕ) → byte b n < 256) → headerAnswer b ≡ Accepted h → codeOf b < 0x8000 → fitb (opened b .state) ≡ true
+open-fit b h l e m =
     let t = took b h e in
-    rw e (fresh-fit (shapeOf h) ∙ subst (λ (x : Header). shapeb (shapeOf x) ≡ true) (t .fields) (accepted-shape b (t .clear) l))
+    rw (opens-scans b h e m) (fresh-fit (shapeOf h) ∙ subst (λ (x : Header). shapeb (shapeOf x) ≡ true) (t .fields) (accepted-shape b (t .clear) m l))
 
 pub open-unfit : (b : List ℕ) (r : Refusal) → headerAnswer b ≡ Refused r → fitb (opened b .state) ≡ false
 unfolding opened

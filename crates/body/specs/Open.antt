@@ -1,7 +1,9 @@
--- "Opening on an accepted header gives a state, a refused opening an all-zero one, unfit."
+-- "Opening on an accepted header gives a state, a refused opening an all-zero one, unfit." The state is that of a body of scans; a demultiplexed record has none.
 -- Assumes nothing.
 use Prim.Native.Nat.{ℕ, _*_, _^_}
 use mathlib.Core.List.{List}
+use Rattle.basis.specs.Choice.{pick}
+use Rattle.codes.specs.Codes.{demultiplexed}
 use Rattle.header.specs.declared.Header.{Header}
 use Rattle.header.specs.declared.Answer.{Answer}
 use Rattle.header.specs.declared.Answer.the-variants.{Accepted, Refused}
@@ -41,9 +43,10 @@ fresh h =
 unfoldable pub unfit : State
 unfit = fresh (record { code = 0; scan = 0; advance = 0; types = 0; block = 0 })
 
--- by the header's answer
+-- by the header's answer, and by its code
 abbrev pub openedOn : Answer → Opened
-openedOn (Accepted h) = record { state = fresh (shapeOf h); answer = O.Ready }
+openedOn (Accepted h) =
+    pick (demultiplexed (h .code)) (record { state = unfit; answer = O.Traces }) (record { state = fresh (shapeOf h); answer = O.Scans })
 openedOn (Refused r) = record { state = unfit; answer = O.Refused r }
 
 -- opening on a block

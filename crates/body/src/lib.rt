@@ -10,10 +10,11 @@ ghost use mathlib.Core.Path.{_≡_};
 ghost use Rattle.body.specs.Ends as Ends;
 ghost use Rattle.body.specs.Open as Open;
 
-// What opening on a header block answers.
+// What opening on a header block answers: what its body is made of, or the header's refusal.
 pub enum Opening {
-    Ready,
-    // the header's refusal
+    Scans,
+    // a demultiplexed record: it has no body of scans
+    Traces,
     Refused(Refusal),
 }
 
@@ -55,16 +56,24 @@ pub struct Closing {
     pub report: Report,
 }
 
-// Opening on a header block: the state before the first byte; all zero, and so unfit, where the header is refused.
+// Opening on a header block: the state before the first byte; all zero, and so unfit, where the header is refused or its body is not of scans.
 pub fn open(block: &[u8]) -> Opened
     ensures { λ r. ⌜ r ≡ Open.opened (now (block .entry)) ⌝ }
 {
     let a = header::read_header(block);
     match a {
-        header::Answer::Accepted(h) => Opened {
-            state: begin::fresh(begin::shape_of(h)),
-            answer: Opening::Ready,
-        },
+        header::Answer::Accepted(h) => {
+            if 0x8000 <= h.code {
+                return Opened {
+                    state: begin::unfit(),
+                    answer: Opening::Traces,
+                };
+            }
+            Opened {
+                state: begin::fresh(begin::shape_of(h)),
+                answer: Opening::Scans,
+            }
+        }
         header::Answer::Refused(r) => Opened {
             state: begin::unfit(),
             answer: Opening::Refused(r),

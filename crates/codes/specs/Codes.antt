@@ -1,6 +1,6 @@
 -- "The twelve format codes stand in one table": its rows, the row of a code, and how many bytes its samples take on tape.
 -- Assumes nothing.
-use Prim.Native.Nat.{ℕ, _+_, _-_, _/_, _≤_}
+use Prim.Native.Nat.{ℕ, _+_, _-_, _/_, _%_, _≤_}
 use mathlib.Core.Bool.{Bool}
 use mathlib.Core.List.{List, [], _∷_}
 use lib.Dec.{eqb, leb}
@@ -45,6 +45,10 @@ rowOf code = findIn table code
 -- "one of the six codes 80xx", of a code that is among the twelve
 abbrev pub demultiplexed : ℕ → Bool
 demultiplexed code = leb 0x8000 code
+
+-- a code without its leading 8
+abbrev pub stemOf : ℕ → ℕ
+stemOf code = code % 0x8000
 
 -- what every row of the table keeps to: the bits of its parts fit its width, and its numbers are small
 pub record SoundRow (r : Row) : Type 0 where

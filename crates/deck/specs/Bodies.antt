@@ -26,12 +26,19 @@ use Rattle.deck.specs.Flat.{unrefused, flatFault}
 
 -- why an opening is refused, if it is
 abbrev pub flatOpening : Opening → Told
-flatOpening opening.Ready = unrefused
+flatOpening opening.Scans = unrefused
+flatOpening opening.Traces = unrefused
 flatOpening (opening.Refused r) = told r
+
+-- 1: a body of scans; 2: one of traces; 0: none
+abbrev pub kindOf : Opening → ℕ
+kindOf opening.Scans = 1
+kindOf opening.Traces = 2
+kindOf (opening.Refused r) = 0
 
 -- an opening, with its state
 abbrev pub flatOpened : Opened → SegdOpened
-flatOpened o = record { refusal = flatOpening (o .answer); state = o .state }
+flatOpened o = record { refusal = flatOpening (o .answer); kind = kindOf (o .answer); state = o .state }
 
 -- 0 going on, 1 stopped, 2 refused
 abbrev pub outcomeOf : Answer → ℕ

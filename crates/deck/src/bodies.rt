@@ -18,10 +18,11 @@ use scan::State;
 use stream::Answer;
 use stream::Gave;
 
-// The state before the first byte; or the header's refusal, with a state that every call refuses.
+// 1: a body of scans, and the state before its first byte; 2: one of traces; 0: the header's refusal. With 2 and 0 every call refuses the state.
 #[repr(C)]
 pub struct SegdOpened {
     pub refusal: Told,
+    pub kind: u8,
     pub state: State,
 }
 
@@ -33,12 +34,19 @@ pub extern "C" fn segd_open(block: &[u8]) -> SegdOpened
     let answer = opened.answer;
     let state = opened.state;
     match answer {
-        Opening::Ready => SegdOpened {
+        Opening::Scans => SegdOpened {
             refusal: unrefused(),
+            kind: 1,
+            state,
+        },
+        Opening::Traces => SegdOpened {
+            refusal: unrefused(),
+            kind: 2,
             state,
         },
         Opening::Refused(r) => SegdOpened {
             refusal: refusals::tell(r),
+            kind: 0,
             state,
         },
     }

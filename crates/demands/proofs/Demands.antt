@@ -34,7 +34,7 @@ use Rattle.layout.proofs.Inverses.{inverse}
 use Rattle.layout.proofs.SetLaws.{channel-is, subscan-is}
 use Rattle.words.specs.Words.{spareOf}
 use Rattle.words.proofs.Parts.{taken}
-use Rattle.header.proofs.Accepted.{descriptor-inside, subscans-small, skew-inside, same-samples}
+use Rattle.header.proofs.Accepted.{descriptor-inside, subscans-small, skew-inside, same-samples, no-scan-bytes}
 use Rattle.layout.proofs.WordLaws.{words-apart, word-inside, words-fill}
 use Rattle.body.proofs.Opens.{open-unfit}
 use Rattle.stream.proofs.Stops.{stop-said}
@@ -51,7 +51,7 @@ use Rattle.scan.specs.declared.State.{State}
 use Rattle.scan.specs.Fit.{fitb}
 use Rattle.stream.specs.Calls.{portion, fitPortion, portionWrote, fitWrote, unchanged}
 use Rattle.body.specs.Ends.{blockEnd, close, refused as refusedBy, nothing as noReport}
-use Rattle.agree.proofs.Agreement.{agreement, turned-away}
+use Rattle.agree.proofs.Agreement.{agreement, turned-away, no-scans}
 use Rattle.framing.proofs.Framed.{framed}
 use Rattle.lister.proofs.Listed.{listed}
 use Rattle.demands.specs.Demand1.{Unmoved, NoTrace, Demand1}
@@ -95,6 +95,7 @@ demand1 = record {
   stopped = stays;
   unfit = unmoved;
   unopened = turned-away;
+  unscanned = no-scans;
   shut = open-unfit;
   told = stop-said;
   room = no-room;
@@ -175,6 +176,7 @@ own-bytes b e =
       apart = words-apart b e;
       inside = word-inside b e;
       fill = words-fill b e;
+      none = no-scan-bytes b e;
       descriptors = descriptor-inside b e;
       subscans = subscans-small b e;
       skews = skew-inside b e;
@@ -208,7 +210,7 @@ demand2 = record {
   described = λ b t s e i. rw (e, i);
   sets = set-asked;
   places = inverse;
-  samples = λ code c word r e low hc hw. taken code r e c word low hc hw;
+  samples = λ code c word r e hc hw. taken code r e c word hc hw;
   cut = λ code r e. cut-in r (fit code r e);
   own = own-bytes;
   values = compared;

@@ -11,7 +11,7 @@ use Rattle.words.specs.Words.{signedFraction, powerOf, lastBit, negativeZero, a
 use Rattle.basis.specs.Upto.{upto}
 use Rattle.basis.specs.Digits.{written}
 use Rattle.block.specs.Bytes.{isPair, pairOf, packedOf, byte, upper, lower, pair, decimal, threeDigits, binary, pairs}
-use Rattle.general.specs.General.{generalDigits, within, timeInRange, isInterval, countsInRange, headerLength, generalFault}
+use Rattle.general.specs.General.{generalDigits, within, timeInRange, isInterval, scanInRange, countsInRange, headerLength, generalFault}
 use Rattle.sets.specs.Descriptors.{descriptorPlace, descriptorAt, descriptorHolds, fourHolds, setFault, scanTypeFault, descriptorsFault}
 use Rattle.sets.specs.Samples.{setSamples, samplesOf}
 use Rattle.sets.specs.ChannelSets.{quarters}
@@ -22,7 +22,7 @@ use Rattle.demands.specs.Figures.{Says, header, place, refused, starred,
 
 -- the starred header breaks no rule
 accepted : Says (header starred 148 378 5 288)
-unfolding pick upto written table findIn rowOf perIn perOf bitsOf isPair pairOf byte upper lower pair decimal threeDigits binary pairs generalDigits within timeInRange isInterval countsInRange headerLength generalFault descriptorPlace descriptorAt descriptorHolds fourHolds setFault scanTypeFault descriptorsFault setSamples samplesOf sizeHolds sizeFault sizesFault skewHolds headerFault
+unfolding pick upto written table findIn rowOf perIn perOf bitsOf isPair pairOf byte upper lower pair decimal threeDigits binary pairs generalDigits within timeInRange isInterval scanInRange countsInRange headerLength generalFault descriptorPlace descriptorAt descriptorHolds fourHolds setFault scanTypeFault descriptorsFault setSamples samplesOf sizeHolds sizeFault sizesFault skewHolds headerFault
 accepted = (refl, refl, refl, refl, refl)
 
 -- and so its samples have their places

@@ -24,7 +24,7 @@ use Rattle.body.specs.declared.Closing.{Closing}
 use Rattle.body.specs.Ends as ends
 use Rattle.body.specs.Open.{opened}
 use Rattle.agree.specs.Calls.{Call, readOn}
-use Rattle.agree.specs.Agreement.{TurnedAway}
+use Rattle.agree.specs.Agreement.{TurnedAway, NoScans}
 use Rattle.demands.specs.Numbers.{numbered, inThree}
 use Rattle.demands.specs.Unique.{Unique}
 use Rattle.demands.specs.Held.{UniqueHeld}
@@ -81,9 +81,10 @@ pub record Demand1 : Type 2 where
   pub stays-after-end : (s : State) (n : ℕ) (r : Refusal) → ends.blockEnd s .answer ≡ answer.Stopped n r → SameStop (ends.blockEnd s .state) r
   -- and so does every fit state that has a stop, wherever it comes from
   pub stopped : (s : State) → fitb s ≡ true → (s .stop ≡ 0 → ⊥) → SameStop s (stopRefusal (s .stop) (s .stopat))
-  -- an unfit state, such as that of a refused opening, is refused by every call
+  -- an unfit state, such as that of a refused opening or of a demultiplexed record's, is refused by every call
   pub unfit : (s : State) → fitb s ≡ false → Unmoved s
   pub unopened : TurnedAway
+  pub unscanned : NoScans
   pub shut : (b : List ℕ) (r : Refusal) → headerAnswer b ≡ Refused r → fitb (opened b .state) ≡ false
   -- a stop that a fit state keeps is told by its row's number, with its place
   pub told : (n place : ℕ) → stopb n ≡ true → (n ≡ 0 → ⊥) → said (stopRefusal n place) ≡ record { number = n; values = place ∷ [] }

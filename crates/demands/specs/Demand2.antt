@@ -45,18 +45,19 @@ ofFields r s e q last = joined (r .exponent - r .apart) (r .fraction) (spareOf r
 abbrev Has : Row → ℕ → ℕ → ℕ → ℕ → ℕ → Type 0
 Has r word s e q last = (signIn r word ≡ s) × (exponentIn r 0 word ≡ e) × (fractionIn r word ≡ q) × (lastIn r word ≡ last)
 
--- "B = 8 + S/S x bytes per sample": the word of sample k lies at its own bytes of the scan, one after another and to the scan's end;
--- and what is read of a scan type in the header block lies in the block
+-- "B = 8 + S/S x bytes per sample": in a multiplexed code the word of sample k lies at its own bytes of the scan, one after another and to
+-- the scan's end; in a demultiplexed one "Bytes per scan must be recorded as zero"; and what is read of a scan type in the header block lies in the block
 pub record OwnBytes (b : List ℕ) : Type 0 where
   pub apart : (j k : ℕ) → j < k → wordPlaceOf (codeOf b) j + wordBytesOf (codeOf b) ≤ wordPlaceOf (codeOf b) k
-  pub inside : (t : ℕ) → t < scanTypes b → (k : ℕ) → k < samplesOf b t → wordPlaceOf (codeOf b) k + wordBytesOf (codeOf b) ≤ bytesPerScan b
-  pub fill : (t : ℕ) → t < scanTypes b → 0 < samplesOf b t → wordPlaceOf (codeOf b) (samplesOf b t - 1) + wordBytesOf (codeOf b) ≡ bytesPerScan b
+  pub inside : codeOf b < 0x8000 → (t : ℕ) → t < scanTypes b → (k : ℕ) → k < samplesOf b t → wordPlaceOf (codeOf b) k + wordBytesOf (codeOf b) ≤ bytesPerScan b
+  pub fill : codeOf b < 0x8000 → (t : ℕ) → t < scanTypes b → 0 < samplesOf b t → wordPlaceOf (codeOf b) (samplesOf b t - 1) + wordBytesOf (codeOf b) ≡ bytesPerScan b
+  pub none : 0x8000 ≤ codeOf b → bytesPerScan b ≡ 0
   pub descriptors : (t s : ℕ) → t < scanTypes b → s < channelSets b → descriptorPlace b t s + 32 ≤ length b
   -- its subscans are 2^(S/C), and S/C is at most 9
   pub subscans : (t s : ℕ) → t < scanTypes b → s < channelSets b → subscansOf b t s ≤ 512
   -- its skew bytes, where skew is recorded: S/S of them, after its CS descriptors
   pub skews : (t : ℕ) → t < scanTypes b → (skewFields b ≡ 0 → ⊥) → descriptorPlace b t (channelSets b) + samplesOf b t ≤ length b
-  -- E2 gives each scan type the first one's S/S
+  -- E2 gives each scan type the first one's S/S, and so does "every scan type has the same S/S"
   pub alike : (t : ℕ) → t < scanTypes b → samplesOf b t ≡ samplesOf b 0
   -- "then extended, then external header", which ends the block
   pub extended : extendedPlace b + 32 * extendedFields b ≡ externalPlace b
@@ -109,8 +110,8 @@ pub record Demand2 : Type 0 where
       (headerFault b ≡ Clear) × (isSet b t s ≡ true) × (d ≡ channelSetOf b (t - 1) (s - 1))
   -- index and place are each the other's inverse on every block, and reach every k below S/S once
   pub places : (b : List ℕ) → Inverse b
-  -- every word of a multiplexed code, no wider than the code's, is the sample that its row's columns give
-  pub samples : (code c word : ℕ) (r : Row) → rowOf code ≡ At r → r .code < 0x8000 → c < 2 ^ r .apart → word < 2 ^ (r .width - r .apart) →
+  -- every word of a code, no wider than the code's, is the sample that its row's columns give
+  pub samples : (code c word : ℕ) (r : Row) → rowOf code ≡ At r → c < 2 ^ r .apart → word < 2 ^ (r .width - r .apart) →
       wordOf code c word ≡ sampleIn r c word
   pub cut : (code : ℕ) (r : Row) → rowOf code ≡ At r → Cut r
   -- each at its own place in the scan

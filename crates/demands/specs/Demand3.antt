@@ -53,7 +53,7 @@ pub record InOrder (sh : Shape) (d : Body) : Type 0 where
       leadAt sh (byteAt d) (j * sh .samples + k) ≡ written 256 (byteAt d) (j * sh .scan + groupBegins sh (byteAt d) k) (leadOf (sh .code))
 
 pub record Demand3 : Type 0 where
-  -- from every accepted header block and every list of calls: every state is fit, the samples joined are those of the uncut body
+  -- from every accepted header block of a multiplexed code and every list of calls: every state is fit, the samples joined are those of the uncut body
   -- before its stop, and each next call and the closing question answer what its rules give
   pub agrees : Agreement
   -- in particular two portions are one

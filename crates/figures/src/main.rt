@@ -64,16 +64,27 @@ fn words_of_each_code() {
     word(0x0048, 0, 0x41100001);
 }
 
-// What is no word: an unknown code, a demultiplexed one, a word and an exponent too wide.
+// Of the 80xx codes: 8015 has a fraction bit more and no last bit to spare, 8048 reads as 0048.
+fn words_of_traces() {
+    word(0x8015, 15, 0x7FFF);
+    word(0x8015, 0, 0x0001);
+    word(0x8015, 3, 0xFFFE);
+    word(0x8015, 3, 0xFFFF);
+    word(0x8042, 0, 0xFF);
+    word(0x8048, 0, 0x41100000);
+}
+
+// What is no word: an unknown code, a word and an exponent too wide.
 fn words_refused() {
     word(0x0016, 0, 0x00);
-    word(0x8048, 0, 0x41100000);
     word(0x0022, 0, 0x100);
     word(0x0024, 1, 0x0000);
     word(0x0015, 16, 0x0000);
+    word(0x8015, 16, 0x0000);
 }
 
 fn main() {
     words_of_each_code();
+    words_of_traces();
     words_refused();
 }

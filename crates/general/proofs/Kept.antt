@@ -8,16 +8,17 @@ use mathlib.Core.List.{List}
 use native.Mathlib.Omega.{arith}
 use lib.Dec.{leb, ltb, eqb}
 use lib.ListN.{length}
-use borrow.Author.Tests.{leb-true, leb-false, eqb-true, not-false}
+use borrow.Author.Tests.{leb-true, le-leb, lt-leb, eqb-true, not-false}
+use Rattle.basis.specs.Choice.{pick}
 use Rattle.basis.proofs.Choices.{and-true}
 use Rattle.refusals.specs.declared.Fault.the-variants.{Clear}
-use Rattle.refusals.specs.declared.Refusal.the-variants.{Short, Format, Demux, Digit, Range, Length}
+use Rattle.refusals.specs.declared.Refusal.the-variants.{Short, Format, Digit, Range, Length}
 use Rattle.refusals.proofs.Clears.{when-clear, first-clear}
 use Rattle.codes.specs.declared.Row.{Row}
 use Rattle.codes.specs.declared.Found.{Found}
 use Rattle.codes.specs.declared.Found.the-variants.{At, Nothing}
-use Rattle.codes.specs.Codes.{rowOf, demultiplexed}
-use Rattle.general.specs.General.{codeOf, bytesPerScan, intervalOf, scanTypes, channelSets, unknown, generalDigits, within, timeInRange, isInterval, countsInRange, headerLength, generalFault}
+use Rattle.codes.specs.Codes.{rowOf}
+use Rattle.general.specs.General.{codeOf, bytesPerScan, intervalOf, scanTypes, channelSets, unknown, generalDigits, within, timeInRange, isInterval, scanInRange, countsInRange, headerLength, generalFault}
 
 -- a power of two up to 128
 pub record Step (i : ℕ) : Type 0 where
@@ -32,7 +33,8 @@ pub record Known (code : ℕ) : Type 0 where
 
 pub record General (b : List ℕ) : Type 0 where
   pub known : Known (codeOf b)
-  pub scan : (1 ≤ bytesPerScan b) × (bytesPerScan b ≤ 999999)
+  pub scan : codeOf b < 0x8000 → (1 ≤ bytesPerScan b) × (bytesPerScan b ≤ 999999)
+  pub none : 0x8000 ≤ codeOf b → bytesPerScan b ≡ 0
   pub interval : Step (intervalOf b)
   pub types : (1 ≤ scanTypes b) × (scanTypes b ≤ 99)
   pub sets : (1 ≤ channelSets b) × (channelSets b ≤ 99)
@@ -60,32 +62,33 @@ has-row : (code : ℕ) (f : Found) → rowOf code ≡ f → unknown f ≡ false 
 has-row code Nothing q e = absurd (false≢true (sym e))
 has-row code (At r) q e = record { row = r; found = q }
 
+-- B of a multiplexed code, and of a demultiplexed one
+scan-kept : (code scan : ℕ) → code < 0x8000 → scanInRange code scan ≡ true → within 1 scan 999999 ≡ true
+unfolding scanInRange pick
+scan-kept code scan m e = rw (lt-leb 0x8000 code m) at e
+
+none-kept : (code scan : ℕ) → 0x8000 ≤ code → scanInRange code scan ≡ true → scan ≡ 0
+unfolding scanInRange pick
+none-kept code scan m e = eqb-true scan 0 (rw (le-leb 0x8000 code m) at e)
+
 pub general-kept : (b : List ℕ) → generalFault b ≡ Clear → General b
 unfolding generalFault countsInRange
 general-kept b e =
     let a₁ = first-clear (ltb (length b) 32) Short e in
     let a₂ = first-clear (unknown (rowOf (codeOf b))) Format (a₁ .1) in
-    let a₃ = first-clear (demultiplexed (codeOf b)) Demux (a₂ .1) in
-    let a₄ = first-clear (not (generalDigits b)) Digit (a₃ .1) in
-    let a₅ = first-clear (not (timeInRange b && countsInRange b)) Range (a₄ .1) in
-    let a₆ = when-clear (not (eqb (length b) (headerLength b))) Length (a₅ .1) in
-    let r = and-true (timeInRange b) (countsInRange b) (not-false _ (a₅ .0)) in
+    let a₃ = first-clear (not (generalDigits b)) Digit (a₂ .1) in
+    let a₄ = first-clear (not (timeInRange b && countsInRange b)) Range (a₃ .1) in
+    let a₅ = when-clear (not (eqb (length b) (headerLength b))) Length (a₄ .1) in
+    let r = and-true (timeInRange b) (countsInRange b) (not-false _ (a₄ .0)) in
     let c₁ = and-true _ (within 1 (channelSets b) 99) (r .1) in
     let c₂ = and-true _ (within 1 (scanTypes b) 99) (c₁ .0) in
-    let c₃ = and-true (within 1 (bytesPerScan b) 999999) (isInterval (intervalOf b)) (c₂ .0) in
+    let c₃ = and-true (scanInRange (codeOf b) (bytesPerScan b)) (isInterval (intervalOf b)) (c₂ .0) in
     record {
       known = has-row (codeOf b) (rowOf (codeOf b)) refl (a₂ .0);
-      scan = within-is _ _ _ (c₃ .0);
+      scan = λ m. within-is _ _ _ (scan-kept (codeOf b) (bytesPerScan b) m (c₃ .0));
+      none = λ m. none-kept (codeOf b) (bytesPerScan b) m (c₃ .0);
       interval = step _ (c₃ .1);
       types = within-is _ _ _ (c₂ .1);
       sets = within-is _ _ _ (c₁ .1);
-      exact = eqb-true (length b) (headerLength b) (not-false _ a₆);
+      exact = eqb-true (length b) (headerLength b) (not-false _ a₅);
     }
-
--- a code that is not refused is multiplexed
-pub general-multiplexed : (b : List ℕ) → generalFault b ≡ Clear → codeOf b < 0x8000
-unfolding generalFault
-general-multiplexed b e =
-    let a₁ = first-clear (ltb (length b) 32) Short e in
-    let a₂ = first-clear (unknown (rowOf (codeOf b))) Format (a₁ .1) in
-    leb-false 0x8000 (codeOf b) (first-clear (demultiplexed (codeOf b)) Demux (a₂ .1) .0)

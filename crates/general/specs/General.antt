@@ -6,7 +6,8 @@ use mathlib.Core.List.{List}
 use lib.Dec.{leb, ltb, eqb}
 use lib.ListN.{length}
 use Rattle.refusals.specs.declared.Fault.{Fault}
-use Rattle.refusals.specs.declared.Refusal.the-variants.{Short, Format, Demux, Digit, Range, Length}
+use Rattle.basis.specs.Choice.{pick}
+use Rattle.refusals.specs.declared.Refusal.the-variants.{Short, Format, Digit, Range, Length}
 use Rattle.refusals.specs.Order.{when, orElse}
 use Rattle.codes.specs.declared.Found.{Found}
 use Rattle.codes.specs.declared.Found.the-variants.{At, Nothing}
@@ -110,10 +111,14 @@ timeInRange b =
 unfoldable pub isInterval : ℕ → Bool
 isInterval i = eqb i 1 || eqb i 2 || eqb i 4 || eqb i 8 || eqb i 16 || eqb i 32 || eqb i 64 || eqb i 128
 
+-- B: 1 to 999,999, and of an 80xx code "bytes per scan must be recorded as zero"
+unfoldable pub scanInRange : ℕ → ℕ → Bool
+scanInRange code scan = pick (demultiplexed code) (eqb scan 0) (within 1 scan 999999)
+
 -- B, I, ST/R and CS; every other field takes whatever its digits or bits can be
 unfoldable pub countsInRange : List ℕ → Bool
 countsInRange b =
-    within 1 (bytesPerScan b) 999999 && isInterval (intervalOf b) && within 1 (scanTypes b) 99 && within 1 (channelSets b) 99
+    scanInRange (codeOf b) (bytesPerScan b) && isInterval (intervalOf b) && within 1 (scanTypes b) 99 && within 1 (channelSets b) 99
 
 -- the 32-byte fields of the first t scan types: CS descriptors and SK skew fields in each
 abbrev pub fieldsBefore : List ℕ → ℕ → ℕ
@@ -128,7 +133,6 @@ unfoldable pub generalFault : List ℕ → Fault
 generalFault b =
     orElse (when (ltb (length b) 32) Short)
     (orElse (when (unknown (rowOf (codeOf b))) Format)
-    (orElse (when (demultiplexed (codeOf b)) Demux)
     (orElse (when (not (generalDigits b)) Digit)
     (orElse (when (not (timeInRange b && countsInRange b)) Range)
-    (when (not (eqb (length b) (headerLength b))) Length)))))
+    (when (not (eqb (length b) (headerLength b))) Length))))

@@ -2,7 +2,7 @@
 ghost use mathlib.Core.Path.{_≡_};
 ghost use Prim.Native.Nat.{_<_};
 ghost use Rattle.codes.specs.Codes.{rowOf};
-ghost use Rattle.general.specs.General.{unknown, generalDigits, within, timeInRange, isInterval, countsInRange, fieldsBefore, headerLength, generalFault};
+ghost use Rattle.general.specs.General.{unknown, generalDigits, within, timeInRange, isInterval, scanInRange, countsInRange, fieldsBefore, headerLength, generalFault};
 use block::all_pairs;
 use block::byte_at;
 use block::lower_at;
@@ -60,10 +60,20 @@ fn is_interval(i: u8) -> bool
     (i == 1) | (i == 2) | (i == 4) | (i == 8) | (i == 16) | (i == 32) | (i == 64) | (i == 128)
 }
 
+// Bytes per scan: none in an 80xx code.
+fn scan_in_range(code: u16, scan: u32) -> bool
+    ensures { λ r. ⌜ r ≡ scanInRange code scan ⌝ }
+{
+    if 0x8000 <= code {
+        return scan == 0;
+    }
+    is_within(1, scan, 999_999)
+}
+
 fn counts_in_range(b: &[u8]) -> bool
     ensures { λ r. ⌜ r ≡ countsInRange (now (b .entry)) ⌝ }
 {
-    is_within(1, three_pairs(b, 20), 999_999)
+    scan_in_range(word_at(b, 3), three_pairs(b, 20))
         & is_interval(byte_at(b, 23))
         & is_within(1, pair_at(b, 28) as u32, 99)
         & is_within(1, pair_at(b, 29) as u32, 99)
@@ -97,9 +107,6 @@ pub fn general_fault(b: &[u8]) -> Fault
     let code = word_at(b, 3);
     if is_unknown(code) {
         return Fault::At(Refusal::Format);
-    }
-    if 0x8000 <= code {
-        return Fault::At(Refusal::Demux);
     }
     if !general_digits(b) {
         return Fault::At(Refusal::Digit);

@@ -1,15 +1,16 @@
 -- What an accepted header keeps: the facts that the layout and the body lean on.
 -- Assumes nothing.
 use Prim.Native.Nat.{ℕ, _+_, _*_, _/_, _%_, _≤_, _<_}
-use mathlib.Core.Path.{_≡_}
+use mathlib.Core.Path.{_≡_, refl}
 use mathlib.Core.Logic.{⊎-elim}
-use mathlib.Core.Bool.{true, not}
+use mathlib.Core.Bool.{Bool, true, false, not}
 use mathlib.Core.List.{List}
 use native.Mathlib.Nat.{mul-le-mul-right, add-mul}
 use native.Mathlib.Omega.{arith}
-use lib.Dec.{eqb}
+use lib.Dec.{eqb, leb}
 use lib.ListN.{length}
-use borrow.Author.Tests.{eqb-true, not-false}
+use borrow.Author.Tests.{eqb-true, not-false, le-leb, lt-leb, leb-true, leb-false}
+use Rattle.basis.specs.Choice.{pick}
 use Rattle.basis.proofs.Choices.{and-true}
 use Rattle.refusals.specs.declared.Fault.the-variants.{Clear}
 use Rattle.refusals.specs.declared.Refusal.the-variants.{Size, Skew}
@@ -17,10 +18,10 @@ use Rattle.refusals.proofs.Clears.{both-clear, when-clear, each-clear}
 use Rattle.codes.specs.Codes.{groupOf, perOf, leadOf, wordBytesOf, bitsOf}
 use Rattle.codes.proofs.Rows.{Sized, sized}
 use Rattle.general.specs.General.{codeOf, bytesPerScan, intervalOf, scanTypes, channelSets, skewFields, extendedFields, externalFields, within, fieldsBefore, headerLength, generalFault}
-use Rattle.general.proofs.Kept.{General, Step, general-kept, general-multiplexed, within-is, or-true}
+use Rattle.general.proofs.Kept.{General, Step, general-kept, within-is, or-true}
 use Rattle.sets.specs.Descriptors.{descriptorPlace, setFault, descriptorsFault}
 use Rattle.sets.specs.Samples.{channelsOf, subscansOf, samplesOf}
-use Rattle.sets.proofs.Kept.{each-kept, subscans-few, channels-by-four, samples-by-four}
+use Rattle.sets.proofs.Kept.{each-kept, subscans-few, channels-by-four, samples-by-four, samples-bounded}
 use Rattle.header.specs.Faults.{sizeHolds, sizeFault, sizesFault, skewHolds, headerFault}
 use Rattle.header.specs.Answers.{isSet}
 use Rattle.header.proofs.Sizes.{cancel, samples-below, Grouped, whole-groups, grouped}
@@ -45,11 +46,6 @@ accepted b e =
       skew = not-false _ (when-clear (not (skewHolds b)) Skew (a₃ .1));
     }
 
--- accepted means multiplexed
-pub multiplexed : (b : List ℕ) → headerFault b ≡ Clear → codeOf b < 0x8000
-unfolding headerFault
-multiplexed b e = general-multiplexed b (both-clear (generalFault b) _ e .0)
-
 -- ---- numbers
 pub types-few : (b : List ℕ) → headerFault b ≡ Clear → (1 ≤ scanTypes b) × (scanTypes b ≤ 99)
 types-few b e = accepted b e .general .types
@@ -60,10 +56,22 @@ sets-few b e = accepted b e .general .sets
 pub interval-is : (b : List ℕ) → headerFault b ≡ Clear → Step (intervalOf b)
 interval-is b e = accepted b e .general .interval
 
+-- "Bytes per scan must be recorded as zero"
+pub no-scan-bytes : (b : List ℕ) → headerFault b ≡ Clear → 0x8000 ≤ codeOf b → bytesPerScan b ≡ 0
+no-scan-bytes b e = accepted b e .general .none
+
+-- SIZE's rule of a multiplexed code, and of a demultiplexed one
+by-size : (b : List ℕ) (t : ℕ) → codeOf b < 0x8000 → sizeHolds b t ≡ true → eqb (8 * bytesPerScan b) (64 + samplesOf b t * bitsOf (codeOf b)) ≡ true
+unfolding sizeHolds pick
+by-size b t m e = rw (lt-leb 0x8000 (codeOf b) m) at e
+
+by-first : (b : List ℕ) (t : ℕ) → 0x8000 ≤ codeOf b → sizeHolds b t ≡ true → samplesOf b t ≡ samplesOf b 0
+unfolding sizeHolds pick
+by-first b t m e = eqb-true _ _ (rw (le-leb 0x8000 (codeOf b) m) at e)
+
 -- E2, in bits
 pub size-is : (b : List ℕ) → headerFault b ≡ Clear → codeOf b < 0x8000 → (t : ℕ) → t < scanTypes b → 8 * bytesPerScan b ≡ 64 + samplesOf b t * bitsOf (codeOf b)
-unfolding sizeHolds
-size-is b e m t h = eqb-true _ _ (accepted b e .sizes t h)
+size-is b e m t h = eqb-true _ _ (by-size b t m (accepted b e .sizes t h))
 
 -- the groups of its code
 pub sizes : (b : List ℕ) → headerFault b ≡ Clear → Sized (groupOf (codeOf b)) (perOf (codeOf b)) (leadOf (codeOf b)) (wordBytesOf (codeOf b)) (bitsOf (codeOf b))
@@ -74,35 +82,45 @@ first-type b e = omega (arith, types-few b e .0)
 
 -- every scan type has the same S/S
 pub same-samples : (b : List ℕ) → headerFault b ≡ Clear → (t : ℕ) → t < scanTypes b → samplesOf b t ≡ samplesOf b 0
-same-samples b e t h =
-    cancel (samplesOf b t) (samplesOf b 0) (bitsOf (codeOf b)) (omega (arith, sizes b e .many))
-    (omega (arith, size-is b e (multiplexed b e) t h, size-is b e (multiplexed b e) 0 (first-type b e)))
+same-samples b e t h = go (leb 0x8000 (codeOf b)) refl
+  where
+    go : (x : Bool) → leb 0x8000 (codeOf b) ≡ x → samplesOf b t ≡ samplesOf b 0
+    go true p = by-first b t (leb-true 0x8000 (codeOf b) p) (accepted b e .sizes t h)
+    go false p =
+        let m = leb-false 0x8000 (codeOf b) p in
+        cancel (samplesOf b t) (samplesOf b 0) (bitsOf (codeOf b)) (omega (arith, sizes b e .many))
+        (omega (arith, size-is b e m t h, size-is b e m 0 (first-type b e)))
+
+-- S/S of whatever code: 99 sets of 9999 channels, 512 samples each
+pub samples-small : (b : List ℕ) → headerFault b ≡ Clear → (t : ℕ) → t < scanTypes b → samplesOf b t ≤ 506829312
+unfolding samplesOf
+samples-small b e t h = omega (arith, samples-bounded b t (channelSets b) (λ s g. accepted b e .sets t s h g), sets-few b e .1)
 
 pub samples-few : (b : List ℕ) → headerFault b ≡ Clear → codeOf b < 0x8000 → (t : ℕ) → t < scanTypes b → samplesOf b t ≤ 999991
 samples-few b e m t h =
-    omega (arith, samples-below (bytesPerScan b) (samplesOf b t) (bitsOf (codeOf b)) (sizes b e .many) (size-is b e m t h), accepted b e .general .scan .1)
+    omega (arith, samples-below (bytesPerScan b) (samplesOf b t) (bitsOf (codeOf b)) (sizes b e .many) (size-is b e m t h), accepted b e .general .scan m .1)
 
 pub scan-is : (b : List ℕ) → headerFault b ≡ Clear → codeOf b < 0x8000 → (8 ≤ bytesPerScan b) × (bytesPerScan b ≤ 999999)
 scan-is b e m = (
   omega (arith, samples-below (bytesPerScan b) (samplesOf b 0) (bitsOf (codeOf b)) (sizes b e .many) (size-is b e m 0 (first-type b e))),
-  accepted b e .general .scan .1,
+  accepted b e .general .scan m .1,
 )
 
 pub subscans-small : (b : List ℕ) → headerFault b ≡ Clear → (t s : ℕ) → t < scanTypes b → s < channelSets b → subscansOf b t s ≤ 512
 subscans-small b e t s h g = subscans-few b t s (accepted b e .sets t s h g)
 
 -- ---- groups of four, and of one
-pub channels-in-four : (b : List ℕ) → headerFault b ≡ Clear → perOf (codeOf b) ≡ 4 → (t s : ℕ) → t < scanTypes b → s < channelSets b → channelsOf b t s % 4 ≡ 0
-channels-in-four b e p t s h g = channels-by-four b t s (accepted b e .sets t s h g) p
+pub channels-in-four : (b : List ℕ) → headerFault b ≡ Clear → codeOf b < 0x8000 → perOf (codeOf b) ≡ 4 → (t s : ℕ) → t < scanTypes b → s < channelSets b → channelsOf b t s % 4 ≡ 0
+channels-in-four b e m p t s h g = channels-by-four b t s (accepted b e .sets t s h g) m p
 
-pub samples-in-four : (b : List ℕ) → headerFault b ≡ Clear → perOf (codeOf b) ≡ 4 → (t : ℕ) → t < scanTypes b → samplesOf b t % 4 ≡ 0
+pub samples-in-four : (b : List ℕ) → headerFault b ≡ Clear → codeOf b < 0x8000 → perOf (codeOf b) ≡ 4 → (t : ℕ) → t < scanTypes b → samplesOf b t % 4 ≡ 0
 unfolding samplesOf
-samples-in-four b e p t h = samples-by-four b t (channelSets b) (λ s g. channels-in-four b e p t s h g)
+samples-in-four b e m p t h = samples-by-four b t (channelSets b) (λ s g. channels-in-four b e m p t s h g)
 
 -- E2, in groups: S/S is whole groups, and B is 8 and their bytes
 pub scan-in-groups : (b : List ℕ) → headerFault b ≡ Clear → codeOf b < 0x8000 → (t : ℕ) → t < scanTypes b → Grouped (bytesPerScan b) (samplesOf b t) (perOf (codeOf b)) (leadOf (codeOf b)) (wordBytesOf (codeOf b))
 scan-in-groups b e m t h =
-    grouped (bytesPerScan b) (samplesOf b t) (sizes b e) (size-is b e m t h) (whole-groups (samplesOf b t) (sizes b e .words) (λ p. samples-in-four b e p t h))
+    grouped (bytesPerScan b) (samplesOf b t) (sizes b e) (size-is b e m t h) (whole-groups (samplesOf b t) (sizes b e .words) (λ p. samples-in-four b e m p t h))
 
 -- ---- parts of the block
 pub length-is : (b : List ℕ) → headerFault b ≡ Clear → length b ≡ headerLength b

@@ -7,14 +7,17 @@ use lib.Dec.{eqb}
 use Rattle.refusals.specs.declared.Fault.{Fault}
 use Rattle.refusals.specs.declared.Refusal.the-variants.{Size, Skew}
 use Rattle.refusals.specs.Order.{when, orElse, firstUpto}
-use Rattle.codes.specs.Codes.{bitsOf}
+use Rattle.codes.specs.Codes.{bitsOf, demultiplexed}
+use Rattle.basis.specs.Choice.{pick}
 use Rattle.general.specs.General.{codeOf, bytesPerScan, scanTypes, skewFields, generalFault}
 use Rattle.sets.specs.Descriptors.{descriptorsFault}
 use Rattle.sets.specs.Samples.{samplesOf}
 
--- E2 of a scan type, in bits: "B = 8 + S/S x bytes per sample"
+-- E2 of a scan type, in bits: "B = 8 + S/S x bytes per sample"; of an 80xx code "every scan type has the same S/S"
 unfoldable pub sizeHolds : List ℕ → ℕ → Bool
-sizeHolds b t = eqb (8 * bytesPerScan b) (8 * 8 + samplesOf b t * bitsOf (codeOf b))
+sizeHolds b t =
+    pick (demultiplexed (codeOf b)) (eqb (samplesOf b t) (samplesOf b 0))
+    (eqb (8 * bytesPerScan b) (8 * 8 + samplesOf b t * bitsOf (codeOf b)))
 
 -- "B differs; with the first such scan type"
 unfoldable pub sizeFault : List ℕ → ℕ → Fault

@@ -61,13 +61,17 @@ pub enum Described {
     NoSet(Refusal),
 }
 
-// E2.
+// E2; of an 80xx code, S/S like scan type 1.
 fn size_holds(b: &[u8], t: u8) -> bool
     ensures { λ r. ⌜ r ≡ sizeHolds (now (b .entry)) t ⌝ }
 {
-    let bits = codes::bits(word_at(b, 3)) as usize;
-    let scan = three_pairs(b, 20) as usize;
+    let code = word_at(b, 3);
     let n = samples(b, t);
+    if 0x8000 <= code {
+        return n == samples(b, 0);
+    }
+    let bits = codes::bits(code) as usize;
+    let scan = three_pairs(b, 20) as usize;
     8 * scan == 64 + n * bits
 }
 

@@ -20,7 +20,7 @@ use Rattle.sets.specs.Samples.{channelsOf, subscansOf, setSamples, samplesBefor
 use Rattle.header.specs.Faults.{headerFault}
 use Rattle.header.specs.Answers.{isSet}
 use Rattle.general.proofs.Kept.{within-is}
-use Rattle.header.proofs.Accepted.{types-few, sets-few, multiplexed, samples-few}
+use Rattle.header.proofs.Accepted.{types-few, sets-few, samples-small}
 use Rattle.layout.specs.declared.Index.{Index}
 use Rattle.layout.specs.declared.Index.the-variants.{Sample}
 use Rattle.layout.specs.declared.Place.{Place}
@@ -83,7 +83,7 @@ pub record Small (b : List ℕ) (t s c u : ℕ) : Type 0 where
   pub scan : (1 ≤ t) × (t ≤ 99)
   pub set : (1 ≤ s) × (s ≤ 99)
   pub channel : 1 ≤ c
-  pub total : samplesBefore b (t - 1) (s - 1) + (u * channelsOf b (t - 1) (s - 1) + (c - 1)) < 2 ^ 21
+  pub total : samplesBefore b (t - 1) (s - 1) + (u * channelsOf b (t - 1) (s - 1) + (c - 1)) < 2 ^ 29
 
 pub sample-small : (b : List ℕ) (t s c u : ℕ) → headerFault b ≡ Clear → hasPlace b t s c u ≡ true → Small b t s c u
 unfolding indexOf
@@ -94,7 +94,7 @@ sample-small b t s c u e p =
       scan = (a .scan .0, omega (arith, a .scan .1, types-few b e .1));
       set = (a .set .0, omega (arith, a .set .1, sets-few b e .1));
       channel = a .channel .0;
-      total = omega (arith, index-below b t s c u a, samples-few b e (multiplexed b e) (t - 1) w);
+      total = omega (arith, index-below b t s c u a, samples-small b e (t - 1) w);
     }
 
 spot-of-index : (b : List ℕ) (t s c u : ℕ) → Asked b t s c u → spotOf b (t - 1) (indexOf b t s c u) ≡ Sits s c u

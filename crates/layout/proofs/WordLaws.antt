@@ -12,7 +12,7 @@ use Rattle.codes.specs.Codes.{perOf, leadOf, wordBytesOf}
 use Rattle.general.specs.General.{codeOf, bytesPerScan, scanTypes}
 use Rattle.sets.specs.Samples.{samplesOf}
 use Rattle.header.specs.Faults.{headerFault}
-use Rattle.header.proofs.Accepted.{sizes, multiplexed, scan-in-groups}
+use Rattle.header.proofs.Accepted.{sizes, scan-in-groups}
 use Rattle.layout.specs.Places.{groupBytes, wordPlace}
 
 module _ (per lead word : ℕ) (some : 0 < per) where
@@ -51,9 +51,9 @@ module _ (b : List ℕ) (e : headerFault b ≡ Clear) where
   pub words-apart : (j k : ℕ) → j < k → word j + wordBytesOf (codeOf b) ≤ word k
   words-apart = apart _ _ _ (sizes b e .some)
 
-  pub word-inside : (t : ℕ) → t < scanTypes b → (k : ℕ) → k < samplesOf b t → word k + wordBytesOf (codeOf b) ≤ bytesPerScan b
-  word-inside t h k l = let g = scan-in-groups b e (multiplexed b e) t h in rw (g .size) (inside _ _ _ (sizes b e .some) (samplesOf b t) k (g .whole) l)
+  pub word-inside : codeOf b < 0x8000 → (t : ℕ) → t < scanTypes b → (k : ℕ) → k < samplesOf b t → word k + wordBytesOf (codeOf b) ≤ bytesPerScan b
+  word-inside m t h k l = let g = scan-in-groups b e m t h in rw (g .size) (inside _ _ _ (sizes b e .some) (samplesOf b t) k (g .whole) l)
 
   -- the last word ends with the scan
-  pub words-fill : (t : ℕ) → t < scanTypes b → 0 < samplesOf b t → word (samplesOf b t - 1) + wordBytesOf (codeOf b) ≡ bytesPerScan b
-  words-fill t h l = let g = scan-in-groups b e (multiplexed b e) t h in rw (g .size) (fills _ _ _ (sizes b e .some) (samplesOf b t) (g .whole) l)
+  pub words-fill : codeOf b < 0x8000 → (t : ℕ) → t < scanTypes b → 0 < samplesOf b t → word (samplesOf b t - 1) + wordBytesOf (codeOf b) ≡ bytesPerScan b
+  words-fill m t h l = let g = scan-in-groups b e m t h in rw (g .size) (fills _ _ _ (sizes b e .some) (samplesOf b t) (g .whole) l)

@@ -14,7 +14,6 @@ use Rattle.basis.specs.Choice.{pick}
 use Rattle.refusals.specs.declared.Refusal.the-variants as R
 use Rattle.header.specs.declared.Answer.{Answer}
 use Rattle.header.specs.declared.Answer.the-variants as H
-use Rattle.header.specs.Answers.{headerAnswer}
 use Rattle.scan.specs.declared.State.{State}
 use Rattle.scan.specs.Step.{after}
 use Rattle.scan.specs.Fit.{fitb}
@@ -27,7 +26,7 @@ use Rattle.listing.specs.declared.Outcome.the-variants as O
 use Rattle.listing.specs.Lines.{lineOf}
 use Rattle.lister.specs.declared.file.File.{File}
 use Rattle.lister.specs.declared.file.File.the-variants.{Empty, Heading, Large, Refused, Blocks}
-use Rattle.lister.specs.Listing.{bodyIn, byHeader, outcomeOf}
+use Rattle.lister.specs.Listing.{headerSaid, bodyIn, byHeader, outcomeOf}
 use Rattle.lister.specs.Turn.{nextNumber, countBy, textBy}
 use Rattle.lister.specs.File.{partOf, itemEnd, headedBy, closedOf, saidOf}
 use Rattle.scan.proofs.Fold.{after-append}
@@ -45,7 +44,7 @@ bodied (H.Accepted x) h blocks have = Blocks (x .file) (x .code) (after (stateAf
 abbrev pub fileAt : ℕ → List (List ℕ) → List ℕ → File
 fileAt cap [] [] = Empty
 fileAt cap [] (x ∷ xs) = pick (leb (length (x ∷ xs)) cap) (Heading (length (x ∷ xs))) Large
-fileAt cap (h ∷ blocks) part = pick (leb (length h) cap) (bodied (headerAnswer h) h blocks part) Large
+fileAt cap (h ∷ blocks) part = pick (leb (length h) cap) (bodied (headerSaid h) h blocks part) Large
 
 body-fit : (s : State) (blocks : List (List ℕ)) → fitb s ≡ true → fitb (stateAfter s blocks) ≡ true
 body-fit s [] f = f
@@ -70,9 +69,9 @@ part-form header numbers [] (x ∷ xs) y ys ok room = go (leb (length (x ∷ xs)
         let l : length ((x ∷ xs) ++ (y ∷ ys)) ≡ length (x ∷ xs) + length (y ∷ ys) = length-append (x ∷ xs) (y ∷ ys) in
         let f : leb (length ((x ∷ xs) ++ (y ∷ ys))) (length header) ≡ false = lt-leb (length ((x ∷ xs) ++ (y ∷ ys))) (length header) (omega arith) in
         rw f
-part-form header numbers (h ∷ blocks) have y ys ok room = go (leb (length h) (length header)) (headerAnswer h) refl
+part-form header numbers (h ∷ blocks) have y ys ok room = go (leb (length h) (length header)) (headerSaid h) refl
   where
-    go : (t : Bool) (d : Answer) → headerAnswer h ≡ d
+    go : (t : Bool) (d : Answer) → headerSaid h ≡ d
         → partOf (pick t (bodied d h blocks have) Large) (y ∷ ys) header numbers ≡ pick t (bodied d h blocks (have ++ (y ∷ ys))) Large
     go true (H.Refused r) e = refl
     go true (H.Accepted x) e =
@@ -94,12 +93,12 @@ end-form header [] x xs kept = go (leb (length (x ∷ xs)) (length header)) refl
     empty (H.Accepted h) = ap (Blocks (h .file) (h .code)) (sym (after-none (opened (x ∷ xs) .state)))
 
     go : (t : Bool) → leb (length (x ∷ xs)) (length header) ≡ t
-        → itemEnd (pick t (Heading (length (x ∷ xs))) Large) header ≡ pick t (bodied (headerAnswer (x ∷ xs)) (x ∷ xs) [] []) Large
+        → itemEnd (pick t (Heading (length (x ∷ xs))) Large) header ≡ pick t (bodied (headerSaid (x ∷ xs)) (x ∷ xs) [] []) Large
     go true e =
         let h : length (x ∷ xs) ≤ length header = leb-true (length (x ∷ xs)) (length header) e in
-        rw (le-ltb (length header) (length (x ∷ xs)) h, kept refl h) (empty (headerAnswer (x ∷ xs)))
+        rw (le-ltb (length header) (length (x ∷ xs)) h, kept refl h) (empty (headerSaid (x ∷ xs)))
     go false e = refl
-end-form header (h ∷ blocks) x xs kept = go (leb (length h) (length header)) (headerAnswer h)
+end-form header (h ∷ blocks) x xs kept = go (leb (length h) (length header)) (headerSaid h)
   where
     go : (t : Bool) (d : Answer) → itemEnd (pick t (bodied d h blocks (x ∷ xs)) Large) header ≡ pick t (bodied d h (blocks ++ ((x ∷ xs) ∷ [])) []) Large
     go true (H.Refused r) = refl
@@ -109,7 +108,7 @@ end-form header (h ∷ blocks) x xs kept = go (leb (length h) (length header)) (
 -- ---- what is said at the mark
 pub said-count : (cap : ℕ) (h : List ℕ) (blocks : List (List ℕ)) (count : ℕ) → countBy (saidOf (fileAt cap (h ∷ blocks) [])) count ≡ nextNumber count
 unfolding pick
-said-count cap h blocks count = go (leb (length h) cap) (headerAnswer h)
+said-count cap h blocks count = go (leb (length h) cap) (headerSaid h)
   where
     go : (t : Bool) (d : Answer) → countBy (saidOf (pick t (bodied d h blocks []) Large)) count ≡ nextNumber count
     go true (H.Refused r) = refl
@@ -119,9 +118,9 @@ said-count cap h blocks count = go (leb (length h) cap) (headerAnswer h)
 pub said-text : (cap : ℕ) (h : List ℕ) (blocks : List (List ℕ)) (count : ℕ) → Items (h ∷ blocks)
     → textBy (saidOf (fileAt cap (h ∷ blocks) [])) count ≡ lineOf (nextNumber count) (outcomeOf cap h blocks)
 unfolding pick
-said-text cap h blocks count ok = go (leb (length h) cap) (headerAnswer h) refl
+said-text cap h blocks count ok = go (leb (length h) cap) (headerSaid h) refl
   where
-    go : (t : Bool) (d : Answer) → headerAnswer h ≡ d
+    go : (t : Bool) (d : Answer) → headerSaid h ≡ d
         → textBy (saidOf (pick t (bodied d h blocks []) Large)) count ≡ lineOf (nextNumber count) (pick t (byHeader d h blocks) (O.Refused R.Large 0))
     go true (H.Refused r) e = refl
     go true (H.Accepted a) e =

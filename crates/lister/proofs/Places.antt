@@ -17,13 +17,14 @@ use Rattle.words.specs.declared.Value.{Value}
 use Rattle.scan.proofs.Choices.{pick-cases}
 use Rattle.header.specs.declared.Header.{Header}
 use Rattle.header.specs.declared.Answer.the-variants.{Accepted}
-use Rattle.header.specs.Answers.{headerAnswer}
 use Rattle.stream.specs.declared.Gave.{Gave}
 use Rattle.body.specs.Open.{opened, fresh}
+use Rattle.body.proofs.Opens.{opens-scans}
 use Rattle.stream.specs.Calls.{unchanged}
 use Rattle.body.specs.Ends.{oneEnd, ended, blockEnd}
 use Rattle.framing.specs.Cuts.{joined}
-use Rattle.lister.proofs.Reader.{stateAfter}
+use Rattle.lister.specs.Listing.{headerSaid}
+use Rattle.lister.proofs.Reader.{stateAfter, of-scans}
 
 -- unless it stops, one byte on
 abbrev On : State → Stepped → Type 0
@@ -96,12 +97,12 @@ body-place s (x ∷ xs) z =
     let one = after-place s x (end .1) in
     (rw length-append (omega (arith, later .0, end .0, one .0)), one .1)
 
-fresh-place : (b : List ℕ) (h : Header) → headerAnswer b ≡ Accepted h → opened b .state .place ≡ 0
-unfolding opened fresh
-fresh-place b h e = rw e
+fresh-place : (b : List ℕ) (h : Header) → headerSaid b ≡ Accepted h → opened b .state .place ≡ 0
+unfolding fresh
+fresh-place b h e = let o = of-scans b h e in rw (opens-scans b h (o .takes) (o .low))
 
 -- from the opening, as many as the blocks have
-pub opened-place : (b : List ℕ) (h : Header) → headerAnswer b ≡ Accepted h → (blocks : List (List ℕ)) → stateAfter (opened b .state) blocks .stop ≡ 0
+pub opened-place : (b : List ℕ) (h : Header) → headerSaid b ≡ Accepted h → (blocks : List (List ℕ)) → stateAfter (opened b .state) blocks .stop ≡ 0
     → stateAfter (opened b .state) blocks .place ≡ length (joined blocks)
 opened-place b h e blocks z =
     let start : opened b .state .place ≡ 0 = fresh-place b h e in

@@ -9,7 +9,6 @@ use Rattle.basis.specs.Choice.{pick}
 use Rattle.refusals.specs.declared.Refusal.the-variants as R
 use Rattle.header.specs.declared.Answer.{Answer}
 use Rattle.header.specs.declared.Answer.the-variants as H
-use Rattle.header.specs.Answers.{headerAnswer}
 use Rattle.scan.specs.declared.State.{State}
 use Rattle.runs.specs.Runs.{over}
 use Rattle.body.specs.Open.{opened}
@@ -21,6 +20,7 @@ use Rattle.body.specs.declared.Report.{Report}
 use Rattle.listing.specs.declared.Outcome.{Outcome}
 use Rattle.listing.specs.declared.Outcome.the-variants as O
 use Rattle.listing.specs.Lent.{storedIn}
+use Rattle.lister.specs.Listing.{headerSaid}
 use Rattle.lister.specs.declared.file.File.{File}
 use Rattle.lister.specs.declared.file.File.the-variants.{Empty, Heading, Large, Refused, Blocks}
 use Rattle.lister.specs.declared.file.AtMark.{AtMark}
@@ -61,7 +61,7 @@ headedBy (H.Accepted h) header = Blocks (h .file) (h .code) (opened header .stat
 
 -- the file after its header block
 abbrev pub headed : List ℕ → File
-headed header = headedBy (headerAnswer header) header
+headed header = headedBy (headerSaid header) header
 
 -- the end of an item
 abbrev pub itemEnd : File → List ℕ → File

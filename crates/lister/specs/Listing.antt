@@ -6,6 +6,7 @@ use lib.Dec.{leb}
 use lib.ListN.{length}
 use Rattle.basis.specs.Choice.{pick}
 use Rattle.refusals.specs.declared.Refusal.the-variants as R
+use Rattle.codes.specs.Codes.{demultiplexed}
 use Rattle.header.specs.declared.Answer.{Answer}
 use Rattle.header.specs.declared.Answer.the-variants.{Accepted, Refused}
 use Rattle.header.specs.Answers.{headerAnswer}
@@ -38,6 +39,15 @@ abbrev pub reported : ℕ → ℕ → ℕ → Closing → Outcome
 reported file format bytes (report t) = O.Listed file format (t .scans) (t .samples) (t .off)
 reported file format bytes (refused r) = O.Refused r bytes
 
+-- bodies of scans are listed: a file whose header is accepted and of an 80xx code is DEMUX
+abbrev pub ofScans : Answer → Answer
+ofScans (Refused r) = Refused r
+ofScans (Accepted h) = pick (demultiplexed (h .code)) (Refused R.Demux) (Accepted h)
+
+-- what is said to a file's header item
+abbrev pub headerSaid : List ℕ → Answer
+headerSaid header = ofScans (headerAnswer header)
+
 -- by the header's answer, and by the rules of the uncut body
 abbrev pub byHeader : Answer → List ℕ → List (List ℕ) → Outcome
 byHeader (Refused r) header blocks = O.Refused r 0
@@ -50,7 +60,7 @@ headerRoom = 65536
 
 -- "In a file the first item is the header, the rest are blocks"; LARGE for a header item above cap bytes
 abbrev pub outcomeOf : ℕ → List ℕ → List (List ℕ) → Outcome
-outcomeOf cap header blocks = pick (leb (length header) cap) (byHeader (headerAnswer header) header blocks) (O.Refused R.Large 0)
+outcomeOf cap header blocks = pick (leb (length header) cap) (byHeader (headerSaid header) header blocks) (O.Refused R.Large 0)
 
 -- a line for each file after the first `count`; "Files without an item are not numbered"
 abbrev pub linesOf : ℕ → ℕ → List (List (List ℕ)) → List (List ℕ)

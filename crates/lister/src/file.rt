@@ -80,6 +80,11 @@ fn read(block: &[u8]) -> File
     match a {
         Answer::Refused(refusal) => File::Refused { refusal },
         Answer::Accepted(h) => {
+            if 0x8000 <= h.code {
+                return File::Refused {
+                    refusal: Refusal::Demux,
+                };
+            }
             let o = body::open(block);
             let state = o.state;
             File::Blocks {

@@ -8,7 +8,7 @@ use lib.ListN.{drop}
 use Rattle.refusals.specs.declared.Fault.{Fault}
 use Rattle.refusals.specs.declared.Refusal.the-variants.{Descriptor, Four}
 use Rattle.refusals.specs.Order.{when, orElse, firstUpto}
-use Rattle.codes.specs.Codes.{perOf}
+use Rattle.codes.specs.Codes.{perOf, demultiplexed}
 use Rattle.block.specs.Bytes.{upper, lower, pair, decimal, pairs}
 use Rattle.general.specs.General.{codeOf, scanTypes, channelSets, fieldsBefore}
 
@@ -30,9 +30,9 @@ descriptorHolds d t s =
     pairs d 1 2 && pairs d 9 10 && pairs d 13 26 && eqb (pair d 1) (t + 1) && eqb (pair d 2) (s + 1) && eqb (lower d 11) 0
     && leb (upper d 12) 9 && eqb (upper d 15) 0 && eqb (upper d 19) 0
 
--- rule 8: where the code's row has its samples in groups of four, as 0015 has, the channels divide by 4
+-- rule 8: where the code's row has a scan's samples in groups of four, as 0015 has, the channels divide by 4; in 8015 a group is of one channel
 unfoldable pub fourHolds : ℕ → ℕ → Bool
-fourHolds code channels = not (eqb (perOf code) 4) || eqb (channels % 4) 0
+fourHolds code channels = demultiplexed code || not (eqb (perOf code) 4) || eqb (channels % 4) 0
 
 -- "7 and 8 go descriptor by descriptor, 7 first", "with scan type and set by place"
 unfoldable pub setFault : List ℕ → ℕ → ℕ → Fault

@@ -83,7 +83,7 @@ fn descriptor_holds(d: &[u8], t: u8, s: u8) -> bool
 fn four_holds(code: u16, channels: u16) -> bool
     ensures { λ r. ⌜ r ≡ fourHolds code channels ⌝ }
 {
-    (per(code) != 4) | (channels % 4 == 0)
+    (0x8000 <= code) | (per(code) != 4) | (channels % 4 == 0)
 }
 
 // Refusal 7 or 8 of one descriptor.

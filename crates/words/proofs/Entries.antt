@@ -74,26 +74,25 @@ says b (is42 e) h = rw e (same (λ (k : ℕ). entered 0x0042 (entryOf 0x0042 k) 
 pub record Narrow (code : ℕ) : Type 0 where
   pub row : Row
   pub found : rowOf code ≡ At row
-  pub low : row .code < 0x8000
   pub apart : row .apart ≡ 0
   pub width : row .width ≡ 8
   pub own : byteCode code ≡ code
 
 pub narrow : {code : ℕ} → OneByte code → Narrow code
 unfolding rowOf findIn table pick byteCode
-narrow (is22 e) = record { row = row 0x0022 8 0 4 2 3 0 OnesComplement; found = rw e; low = omega arith; apart = refl; width = refl; own = rw e }
-narrow (is42 e) = record { row = row 0x0042 8 0 5 4 2 0 SignMagnitude; found = rw e; low = omega arith; apart = refl; width = refl; own = rw e }
+narrow (is22 e) = record { row = row 0x0022 8 0 4 2 3 0 OnesComplement; found = rw e; apart = refl; width = refl; own = rw e }
+narrow (is42 e) = record { row = row 0x0042 8 0 5 4 2 0 SignMagnitude; found = rw e; apart = refl; width = refl; own = rw e }
 
 module _ {code : ℕ} (n : Narrow code) where
   -- c is not 0
   pub wide-c : (c word : ℕ) → (c ≡ 0 → ⊥) → wordOf code c word ≡ Refused Index
-  wide-c c word h = not-taken code (n .row) (n .found) c word (n .low) (rw (n .apart, le-ltb c 1 (omega (arith, h))))
+  wide-c c word h = not-taken code (n .row) (n .found) c word (rw (n .apart, le-ltb c 1 (omega (arith, h))))
 
   pub wide-word : (c word : ℕ) → 255 < word → wordOf code c word ≡ Refused Index
-  wide-word c word h = not-taken code (n .row) (n .found) c word (n .low) (rw (n .apart, n .width, le-ltb word 256 h, and-false))
+  wide-word c word h = not-taken code (n .row) (n .found) c word (rw (n .apart, n .width, le-ltb word 256 h, and-false))
 
   in-width : (word : ℕ) → word < 256 → wordOf code 0 word ≡ sampleIn (n .row) 0 word
-  in-width word h = taken code (n .row) (n .found) 0 word (n .low) (rw (n .apart) (omega arith)) (rw (n .apart, n .width) h)
+  in-width word h = taken code (n .row) (n .found) 0 word (rw (n .apart) (omega arith)) (rw (n .apart, n .width) h)
 
   -- a byte's word, from its value
   pub as-word : (word : ℕ) {v : Value} → word < 256 → v ≡ valueOf code 0 word → Sample (v .m) (v .x) (v .off) ≡ wordOf code 0 word

@@ -3,3 +3,4 @@ pub mod Joins
 pub mod Parts
 pub mod Entries
 pub mod OffBytes
+pub mod Stems

@@ -7,7 +7,7 @@ use native.Mathlib.Nat.{zero-mul, add-zero, zero-div, zero-mod}
 use native.Mathlib.Omega.{arith}
 use lib.Dec.{ltb}
 use lib.IntN.{ℤ}
-use borrow.Author.Tests.{lt-ltb, lt-leb}
+use borrow.Author.Tests.{lt-ltb}
 use Rattle.basis.specs.Choice.{pick}
 use Rattle.basis.specs.Fields.{field, joined}
 use Rattle.basis.proofs.FieldLaws.{rejoined}
@@ -64,17 +64,16 @@ module _ (code : ℕ) (r : Row) (e : rowOf code ≡ At r) where
   unfolding wordOf
   word-row c word = rw e
 
-  pub taken : (c word : ℕ) → r .code < 0x8000 → c < 2 ^ r .apart → word < 2 ^ (r .width - r .apart) → wordOf code c word ≡ sampleIn r c word
+  pub taken : (c word : ℕ) → c < 2 ^ r .apart → word < 2 ^ (r .width - r .apart) → wordOf code c word ≡ sampleIn r c word
   unfolding wordIn pick
-  taken c word low hc hw =
-      word-row c word ∙ rw (lt-leb 0x8000 (r .code) low, lt-ltb c (2 ^ r .apart) hc, lt-ltb word (2 ^ (r .width - r .apart)) hw)
+  taken c word hc hw = word-row c word ∙ rw (lt-ltb c (2 ^ r .apart) hc, lt-ltb word (2 ^ (r .width - r .apart)) hw)
 
   -- and one that is wider is not
-  pub not-taken : (c word : ℕ) → r .code < 0x8000 → (ltb c (2 ^ r .apart) && ltb word (2 ^ (r .width - r .apart))) ≡ false → wordOf code c word ≡ Refused Index
+  pub not-taken : (c word : ℕ) → (ltb c (2 ^ r .apart) && ltb word (2 ^ (r .width - r .apart))) ≡ false → wordOf code c word ≡ Refused Index
   unfolding wordIn pick
-  not-taken c word low h = word-row c word ∙ rw (lt-leb 0x8000 (r .code) low, h)
+  not-taken c word h = word-row c word ∙ rw h
 
-  pub value-of : (c word : ℕ) {v : Value} → r .code < 0x8000 → c < 2 ^ r .apart → word < 2 ^ (r .width - r .apart)
+  pub value-of : (c word : ℕ) {v : Value} → c < 2 ^ r .apart → word < 2 ^ (r .width - r .apart)
       → v ≡ valued (sampleIn r c word) → v ≡ valueOf code c word
   unfolding valueOf
-  value-of c word low hc hw h = h ∙ ap valued (sym (taken c word low hc hw))
+  value-of c word hc hw h = h ∙ ap valued (sym (taken c word hc hw))

@@ -6,13 +6,13 @@ use lib.Dec.{eqb, ltb}
 use lib.IntN.{ℤ, pos, negℤ, _-ℤ_}
 use Rattle.basis.specs.Choice.{pick}
 use Rattle.basis.specs.Fields.{field}
-use Rattle.refusals.specs.declared.Refusal.the-variants.{Format, Demux, Index}
+use Rattle.refusals.specs.declared.Refusal.the-variants.{Format, Index}
 use Rattle.codes.specs.declared.Kind.{Kind}
 use Rattle.codes.specs.declared.Kind.the-variants.{OnesComplement, SignMagnitude, Justified}
 use Rattle.codes.specs.declared.Row.{Row}
 use Rattle.codes.specs.declared.Found.{Found}
 use Rattle.codes.specs.declared.Found.the-variants.{At, Nothing}
-use Rattle.codes.specs.Codes.{rowOf, demultiplexed}
+use Rattle.codes.specs.Codes.{rowOf}
 use Rattle.words.specs.declared.Value.{Value}
 use Rattle.words.specs.declared.Word.{Word}
 use Rattle.words.specs.declared.Word.the-variants.{Sample, Refused}
@@ -90,11 +90,10 @@ sampleIn r c word =
     (powerOf (r .base) (r .bias) (r .fraction) (exponentIn r c word))
     (offRule (r .kind) (r .fraction) (r .exponent) (lastIn r word) (signIn r word) (exponentIn r c word) (fractionIn r word))
 
--- a word asked about: DEMUX, then INDEX for "a word or c asked about wider than its code's"
+-- a word asked about: INDEX for "a word or c asked about wider than its code's"
 unfoldable pub wordIn : Row → ℕ → ℕ → Word
 wordIn r c word =
-    pick (demultiplexed (r .code)) (Refused Demux)
-    (pick (ltb c (2 ^ r .apart) && ltb word (2 ^ (r .width - r .apart))) (sampleIn r c word) (Refused Index))
+    pick (ltb c (2 ^ r .apart) && ltb word (2 ^ (r .width - r .apart))) (sampleIn r c word) (Refused Index)
 
 -- FORMAT where the code is not among the twelve
 abbrev pub wordFound : Found → ℕ → ℕ → Word

@@ -1,4 +1,4 @@
-// Sample words: the fraction, the exponent and the off-rule mark of a word in each of the six multiplexed codes. Words of one byte are read from the tables of tables.rt.
+// Sample words: the fraction, the exponent and the off-rule mark of a word in each of the twelve codes. Words of one byte are read from the tables of tables.rt.
 pub mod tables;
 
 ghost use mathlib.Core.Path.{_≡_};
@@ -166,14 +166,11 @@ fn has_bits(word: u32, w: u32) -> bool
     word < two_to(w)
 }
 
-// The answer to a word of a row: DEMUX, INDEX, or its sample.
+// The answer to a word of a row: INDEX, or its sample.
 fn of_row(row: Row, c: u32, word: u32) -> Word
     requires { ⌜ SoundRow row ⌝ }
     ensures { λ r. ⌜ r ≡ wordIn row c word ⌝ }
 {
-    if 0x8000 <= row.code {
-        return Word::Refused(Refusal::Demux);
-    }
     if has_bits(c, row.apart) {
         if has_bits(word, row.width - row.apart) {
             let kind = row.kind;
@@ -212,17 +209,18 @@ fn by_table(table: &[u64; 256], code: u16, c: u32, word: u32) -> Word
     }
 }
 
-// The sample that a word of a format code is, with the exponent c that stands apart from it (0015; elsewhere 0); or FORMAT, DEMUX, INDEX.
+// The sample that a word of a format code is, with the exponent c that stands apart from it (0015 and 8015; elsewhere 0); or FORMAT, INDEX.
 pub fn read_word(code: u16, c: u32, word: u32) -> Word
     ensures { λ r. ⌜ r ≡ wordOf code c word ⌝ }
 {
-    if code == 0x0022 {
+    let stem = code % 0x8000;
+    if stem == 0x0022 {
         let table = tables::of_22();
-        return by_table(&table, code, c, word);
+        return by_table(&table, stem, c, word);
     }
-    if code == 0x0042 {
+    if stem == 0x0042 {
         let table = tables::of_42();
-        return by_table(&table, code, c, word);
+        return by_table(&table, stem, c, word);
     }
     let found = codes::find(code);
     match found {
@@ -252,9 +250,9 @@ pub fn read(code: u16, c: u32, word: u32) -> Value
     as_value(read_word(code, c, word))
 }
 
-// A word of a multiplexed code, by its row, where no exponent stands apart from it.
+// A word of a code, by its row, where no exponent stands apart from it.
 fn by_row(r: Row, word: u32) -> Value
-    requires { ⌜ (rowOf (r .code) ≡ At r) × (r .code < 0x8000) × (word < 2 ^ (r .width - r .apart)) ⌝ }
+    requires { ⌜ (rowOf (r .code) ≡ At r) × (word < 2 ^ (r .width - r .apart)) ⌝ }
     ensures { λ v. ⌜ v ≡ valueOf (r .code) 0 word ⌝ }
 {
     let kind = r.kind;

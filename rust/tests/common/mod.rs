@@ -1,5 +1,7 @@
 //! Header blocks for the tests.
 
+use segd::Body;
+
 /// The body of the description's case L.
 pub const L_BODY: [u8; 24] =
     *b"\xFF\xFF\xFF\x01\0\0\0\0\x18\x97\xFF\0\xFF\xFF\xFF\x01\0\x02\0\0\x18\x97\0\0";
@@ -36,4 +38,9 @@ pub fn case_l() -> Vec<u8> {
     let mut block = general(0x0022, 12, 32, 1, 1, 0);
     block.extend(set(1, 1, 4, 0));
     block
+}
+
+/// The body that an accepted header of a multiplexed record opens.
+pub fn scans(block: &[u8]) -> Body {
+    segd::open(block).expect("an accepted header").scans().expect("a body of scans")
 }

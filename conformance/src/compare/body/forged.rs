@@ -47,7 +47,7 @@ fn with_code(state: &State, code: u16) -> State {
     State { shape: Shape { code, ..state.shape }, ..*state }
 }
 
-/// Codes without words: those of demultiplexed records, and some of no row.
+/// Codes without scans: those of demultiplexed records, and some of no row.
 fn wrong_codes(rng: &mut Rng) -> Vec<u16> {
     let drawn = (rng.word() >> 16) as u16;
     let near = CODES.iter().flat_map(|code| [code | 0x8000, code + 1, code - 1]);
@@ -99,7 +99,7 @@ fn any_state(rng: &mut Rng, code: u16) -> (State, Vec<u8>) {
     let block = header(rng, &plan);
     let body = any_body(rng, &plan);
     let calls = cut(rng, &body);
-    let mut state = ours::open(&block).unwrap_or_default();
+    let mut state = ours::opened_state(&block);
     let so_far = rng.index(calls.len());
     for call in &calls[..so_far] {
         let _ = ours::call(&mut state, call);

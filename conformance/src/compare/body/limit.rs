@@ -212,7 +212,7 @@ fn ask_forward(
     calls: &[Call],
     first: usize,
 ) {
-    let mut state = ours::open(block).unwrap_or_default();
+    let mut state = ours::opened_state(block);
     for call in &calls[..first] {
         let _ = ours::call(&mut state, call);
     }
@@ -276,7 +276,7 @@ fn going_on() -> Answer {
 /// All bytes up to the limit go on; one more is too far, alone or with them.
 fn ask_opened(group: &mut Group, plan: &Plan, block: &[u8]) {
     let leap = Leap::over(plan, 0);
-    let state = leap.state(&ours::open(block).unwrap_or_default());
+    let state = leap.state(&ours::opened_state(block));
     let (left, one) = (portion_of_ones(leap.limit()), portion_of_ones(1));
     let stopped = turned_away(&one, too_long());
     let asked = || format!("an opening at {}, {}", state.place, show(block, &[]));
@@ -295,7 +295,7 @@ fn ask_filled(group: &mut Group, plan: &Plan, block: &[u8]) {
     let leap = Leap::over(plan, 0);
     let only = plan.block_scans == 0;
     let ends = if only { 1 } else { leap.ends as u32 - 1 };
-    let state = State { ends, ..leap.state(&ours::open(block).unwrap_or_default()) };
+    let state = State { ends, ..leap.state(&ours::opened_state(block)) };
     let asked = || format!("an opening at {} with {ends} ends, {}", state.place, show(block, &[]));
     let one = portion_of_ones(1);
     ask(group, &mut { state }, &one, &turned_away(&one, too_long()), asked);

@@ -81,7 +81,7 @@ fn difference(ours: Result<Read, String>, wanted: &Read) -> Option<String> {
 
 /// Reads a record that has to go on to its end.
 fn in_portions((block, body): &Record, size: usize) -> Result<Read, String> {
-    let mut state = ours::open(block).map_err(|refusal| format!("not opened: {refusal:?}"))?;
+    let (_, mut state) = ours::open(block).map_err(|refusal| format!("not opened: {refusal:?}"))?;
     let mut numbers = Vec::new();
     for bytes in &body.blocks {
         for portion in bytes.chunks(size) {

@@ -6,7 +6,7 @@ use lib.Dec.{eqb}
 use lib.ListN.{length}
 use denote.Ref.{now}
 use borrow.Author.Needs.{needs}
-use borrow.Author.Tests.{le-ltb, lt-ltb, le-leb, lt-leb, eq-eqb, ne-eqb}
+use borrow.Author.Tests.{le-ltb, lt-ltb, eq-eqb, ne-eqb}
 use Rattle.basis.specs.Choice.{pick}
 use Rattle.refusals.specs.declared.Refusal.the-variants.{Length}
 use Rattle.refusals.specs.Order.{when}
@@ -33,29 +33,18 @@ returns-2 c = rw (
   c .if2 .taken,
 )
 
-returns-3 : tie.Need-returns-3
-unfolding generalFault pick
-returns-3 c = rw (
-  le-ltb _ _ (c .before .before .before .before .if1 .left),
-  ← c .before .before .before .word-at .ensures,
-  ← c .before .before .is-unknown .ensures,
-  c .before .if2 .left,
-  le-leb _ _ (c .if3 .taken),
-)
-
 general-digits-requires : tie.Need-general-digits-requires
 general-digits-requires c κs = search needs
 
-returns-4 : tie.Need-returns-4
+returns-3 : tie.Need-returns-3
 unfolding generalFault pick
-returns-4 c = rw (
-  le-ltb _ _ (c .before .before .before .before .before .before .if1 .left),
-  ← c .before .before .before .before .before .word-at .ensures,
-  ← c .before .before .before .before .is-unknown .ensures,
-  c .before .before .before .if2 .left,
-  lt-leb _ _ (c .before .before .if3 .left),
+returns-3 c = rw (
+  le-ltb _ _ (c .before .before .before .before .before .if1 .left),
+  ← c .before .before .before .before .word-at .ensures,
+  ← c .before .before .before .is-unknown .ensures,
+  c .before .before .if2 .left,
   ← c .before .general-digits .ensures,
-  c .if4 .taken,
+  c .if3 .taken,
 )
 
 time-in-range-requires : tie.Need-time-in-range-requires
@@ -64,48 +53,46 @@ time-in-range-requires c κs = search needs
 counts-in-range-requires : tie.Need-counts-in-range-requires
 counts-in-range-requires c κs = search needs
 
-returns-5 : tie.Need-returns-5
+returns-4 : tie.Need-returns-4
 unfolding generalFault pick
-returns-5 c = rw (
-  le-ltb _ _ (c .before .before .before .before .before .before .before .before .before .if1 .left),
-  ← c .before .before .before .before .before .before .before .before .word-at .ensures,
-  ← c .before .before .before .before .before .before .before .is-unknown .ensures,
-  c .before .before .before .before .before .before .if2 .left,
-  lt-leb _ _ (c .before .before .before .before .before .if3 .left),
+returns-4 c = rw (
+  le-ltb _ _ (c .before .before .before .before .before .before .before .before .if1 .left),
+  ← c .before .before .before .before .before .before .before .word-at .ensures,
+  ← c .before .before .before .before .before .before .is-unknown .ensures,
+  c .before .before .before .before .before .if2 .left,
   ← c .before .before .before .before .general-digits .ensures,
-  c .before .before .before .if4 .left,
+  c .before .before .before .if3 .left,
   ← c .before .before .time-in-range .ensures,
   ← c .before .counts-in-range .ensures,
-  c .if5 .taken,
+  c .if4 .taken,
 )
 
 header-length-requires : tie.Need-header-length-requires
 header-length-requires c κs = search needs
 
 -- where the first five rules are kept, the sixth decides
-past : (c : tie.After-header-length) → generalFault (now (c .before .before .before .before .before .before .before .before .before .before .before .before .args .b)) ≡ when (not (eqb (length (now (c .before .before .before .before .before .before .before .before .before .before .before .before .args .b))) (c .header-length .result))) Length
+past : (c : tie.After-header-length) → generalFault (now (c .before .before .before .before .before .before .before .before .before .before .before .args .b)) ≡ when (not (eqb (length (now (c .before .before .before .before .before .before .before .before .before .before .before .args .b))) (c .header-length .result))) Length
 unfolding generalFault pick
 past c = rw (
-  le-ltb _ _ (c .before .before .before .before .before .before .before .before .before .before .if1 .left),
-  ← c .before .before .before .before .before .before .before .before .before .word-at .ensures,
-  ← c .before .before .before .before .before .before .before .before .is-unknown .ensures,
-  c .before .before .before .before .before .before .before .if2 .left,
-  lt-leb _ _ (c .before .before .before .before .before .before .if3 .left),
+  le-ltb _ _ (c .before .before .before .before .before .before .before .before .before .if1 .left),
+  ← c .before .before .before .before .before .before .before .before .word-at .ensures,
+  ← c .before .before .before .before .before .before .before .is-unknown .ensures,
+  c .before .before .before .before .before .before .if2 .left,
   ← c .before .before .before .before .before .general-digits .ensures,
-  c .before .before .before .before .if4 .left,
+  c .before .before .before .before .if3 .left,
   ← c .before .before .before .time-in-range .ensures,
   ← c .before .before .counts-in-range .ensures,
-  c .before .if5 .left,
+  c .before .if4 .left,
   ← c .header-length .ensures,
 )
 
+returns-5 : tie.Need-returns-5
+unfolding pick
+returns-5 c = rw (past (c .before), ne-eqb _ _ (c .if5 .taken))
+
 returns-6 : tie.Need-returns-6
 unfolding pick
-returns-6 c = rw (past (c .before), ne-eqb _ _ (c .if6 .taken))
-
-returns-7 : tie.Need-returns-7
-unfolding pick
-returns-7 c = rw (past (c .before), eq-eqb _ _ (c .if6 .left))
+returns-6 c = rw (past (c .before), eq-eqb _ _ (c .if5 .left))
 
 pub general-fault-spec : {M : Type 1} → statement M
 general-fault-spec =
@@ -115,12 +102,11 @@ general-fault-spec =
     word-at-requires
     is-unknown-requires
     returns-2
-    returns-3
     general-digits-requires
-    returns-4
+    returns-3
     time-in-range-requires
     counts-in-range-requires
-    returns-5
+    returns-4
     header-length-requires
-    returns-6
-    returns-7)
+    returns-5
+    returns-6)

@@ -4,7 +4,7 @@ use mathlib.Core.Path.{sym, _∙_}
 use native.Mathlib.Omega.{arith}
 use borrow.Author.Needs.{needs}
 use Rattle.header.specs.Answers.{headerAnswer}
-use Rattle.header.proofs.Accepted.{multiplexed, samples-few, first-type}
+use Rattle.header.proofs.Accepted.{samples-small, first-type}
 use Rattle.header.proofs.read_header.Statement.{statement}
 use Rattle.header.proofs.read_header.Tie as tie
 
@@ -21,7 +21,7 @@ samples-requires : tie.Need-samples-requires
 samples-requires c κs = search needs
 
 cast-fields : tie.Need-cast-fields
-cast-fields c = let e = sym (c .before .before .before .header-fault .ensures) ∙ c .before .enum-told .given .1 in omega (arith, c .samples .ensures .0, samples-few _ e (multiplexed _ e) 0 (first-type _ e))
+cast-fields c = let e = sym (c .before .before .before .header-fault .ensures) ∙ c .before .enum-told .given .1 in omega (arith, c .samples .ensures .0, samples-small _ e 0 (first-type _ e))
 
 fields-requires : tie.Need-fields-requires
 fields-requires c κs = search needs

@@ -11,7 +11,7 @@ use Rattle.layout.proofs.index_of.Tie as tie
 small : (c : tie.After-shared-slice-known) → Small (c .before .args .b .now) (c .before .args .t) (c .before .args .s) (c .before .args .c) (c .before .args .u)
 small c = sample-small _ _ _ _ _ (c .before .pre .0) (c .before .pre .1)
 
-total : (c : tie.After-channels) → c .before .samples-before .result + (c .before .before .before .args .u * c .channels .result + (c .before .before .before .args .c - 1)) < 2 ^ 21
+total : (c : tie.After-channels) → c .before .samples-before .result + (c .before .before .before .args .u * c .channels .result + (c .before .before .before .args .c - 1)) < 2 ^ 29
 total c = rw (c .before .samples-before .ensures .0, c .channels .ensures) (small (c .before .before) .total)
 
 sub-t : tie.Need-sub-t

@@ -12,7 +12,7 @@ use Rattle.words.proofs.by_row.Tie as tie
 sample-requires : tie.Need-sample-requires
 sample-requires c κs =
     let f = fit _ _ (c .pre .0) in
-    (f .whole, f .narrow, f .inside, f .short, f .some, f .few, f .small, f .hex, f .half, pow-pos _, c .pre .2)
+    (f .whole, f .narrow, f .inside, f .short, f .some, f .few, f .small, f .hex, f .half, pow-pos _, c .pre .1)
 
 as-value-requires : tie.Need-as-value-requires
 as-value-requires c κs = search needs
@@ -21,7 +21,7 @@ returns : tie.Need-returns
 unfolding sampleIn
 returns c =
     let p = c .before .before .pre in
-    value-of _ _ (p .0) 0 _ (p .1) (pow-pos _) (p .2) (c .as-value .ensures ∙ ap valued (c .before .sample .ensures))
+    value-of _ _ (p .0) 0 _ (pow-pos _) (p .1) (c .as-value .ensures ∙ ap valued (c .before .sample .ensures))
 
 pub by-row-spec : {M : Type 1} → statement M
 by-row-spec = tie.close (tie.spec sample-requires as-value-requires returns)

@@ -4,7 +4,6 @@ use Prim.Native.Nat.{_+_, _/_, _%_}
 use mathlib.Core.Path.{refl, _∙_, ap}
 use native.Mathlib.Omega.{arith}
 use native.Mathlib.Nat.{add-zero, mod-lt}
-use lib.Dec.{lit<}
 use lib.Pow.{pow-pos}
 use Rattle.basis.specs.Choice.{pick}
 use Rattle.basis.specs.Fields.{field}
@@ -34,7 +33,7 @@ returns c =
     let d = c .before .before in
     let a = d .before .args in
     let t = a .word / 2 in
-    value-of 0x0015 _ refl (a .c % 16) _ (lit< tt) (mod-lt (a .c) (pow-pos 4)) (search needs) (ap valued (
+    value-of 0x0015 _ refl (a .c % 16) _ (mod-lt (a .c) (pow-pos 4)) (search needs) (ap valued (
     from-parts _ (a .c % 16) (a .word) {s = t / 16384} {e = 0} {q = t % 16384} {last = a .word % 2} (omega arith) (omega arith) refl (omega arith)
     (search needs ∙ d .fraction15 .ensures) (search needs ∙ c .before .power .ensures ∙ rw (add-zero (a .c % 16)))
     (rw (c .last-bit .ensures, both-ones {a = t} {b = 32767} (t / 16384) (t % 16384) 16384 (omega arith) (omega arith) (λ e. omega arith) (λ e. omega arith)))))

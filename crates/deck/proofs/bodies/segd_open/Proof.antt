@@ -13,6 +13,12 @@ enum-told c = search needs
 unrefused-requires : tie.Need-unrefused-requires
 unrefused-requires c κs = search needs
 
+enum-told-2 : tie.Need-enum-told-2
+enum-told-2 c = search needs
+
+unrefused-requires-2 : tie.Need-unrefused-requires-2
+unrefused-requires-2 c κs = search needs
+
 enum-known-answer : tie.Need-enum-known-answer
 enum-known-answer c = search needs
 
@@ -23,7 +29,10 @@ returns : tie.Need-returns
 returns c = rw (← c .before .before .before .before .«open» .ensures, c .before .enum-told .given .1, c .unrefused .ensures)
 
 returns-2 : tie.Need-returns-2
-returns-2 c = rw (← c .before .before .before .before .before .«open» .ensures, c .before .before .answer .given .1, c .tell .ensures)
+returns-2 c = rw (← c .before .before .before .before .«open» .ensures, c .before .enum-told2 .given .1, c .unrefused2 .ensures)
+
+returns-3 : tie.Need-returns-3
+returns-3 c = rw (← c .before .before .before .before .before .«open» .ensures, c .before .before .answer .given .1, c .tell .ensures)
 
 pub segd-open-spec : {M : Type 1} → statement M
 segd-open-spec =
@@ -32,7 +41,10 @@ segd-open-spec =
     open-requires
     enum-told
     unrefused-requires
+    enum-told-2
+    unrefused-requires-2
     enum-known-answer
     tell-requires
     returns
-    returns-2)
+    returns-2
+    returns-3)
