@@ -125,7 +125,7 @@ pub fn any_reel(rng: &mut Rng) -> Vec<u8> {
 
 /// The longest portion that an image is cut into: all that one read of the lister
 /// takes.
-pub const LONGEST_PORTION: usize = 32_768;
+pub const LONGEST_PORTION: usize = 65_536;
 
 /// An image cut at random. Long ones are not cut into very short portions, which
 /// takes too long.

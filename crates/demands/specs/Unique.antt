@@ -72,6 +72,9 @@ use Rattle.framing.proofs.next.Reads as framing-next
 use Rattle.listing.proofs.record_line.Reads as listing-record-line
 use Rattle.listing.proofs.last_line.Reads as listing-last-line
 use Rattle.listing.proofs.store.Reads as listing-store
+use Rattle.files.proofs.part.Reads as files-part
+use Rattle.files.proofs.item_end.Reads as files-item-end
+use Rattle.files.proofs.outcome.Reads as files-outcome
 use Rattle.lister.proofs.start.Reads as lister-start
 use Rattle.lister.proofs.portion.Reads as lister-portion
 use Rattle.lister.proofs.finish.Reads as lister-finish
@@ -176,6 +179,11 @@ pub record Unique : Type 0 where
   pub last-line-content : OneContent listing-last-line.Post (λ κ e. e .0 .now)
   pub store : OneAnswer listing-store.Post
   pub store-content : OneContent listing-store.Post (λ κ e. e .0 .now)
+  pub part : OneAnswer files-part.Post
+  pub part-header : OneContent files-part.Post (λ κ e. e .1 .1 .0 .now)
+  pub part-numbers : OneContent files-part.Post (λ κ e. e .1 .1 .1 .0 .now)
+  pub item-end : OneAnswer files-item-end.Post
+  pub outcome : OneAnswer files-outcome.Post
   pub starts : OneAnswer lister-start.Post
   pub lists : OneAnswer lister-portion.Post
   pub lists-header : OneContent lister-portion.Post (λ κ e. e .1 .1 .0 .now)

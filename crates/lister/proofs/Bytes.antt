@@ -9,6 +9,7 @@ use Rattle.basis.proofs.Choices.{pick-both}
 use Rattle.framing.specs.Image.{Reading, lengthOf, itemsOf, readingOf}
 use Rattle.framing.specs.Cuts.{joined}
 use Rattle.agree.specs.Calls.{Bytes}
+use Rattle.files.proofs.Items.{Items}
 use Rattle.lister.specs.Listed.{Portions}
 
 pub bytes-append : (xs ys : List ℕ) → Bytes xs → Bytes ys → Bytes (xs ++ ys)
@@ -24,15 +25,6 @@ pub bytes-drop : (n : ℕ) (xs : List ℕ) → Bytes xs → Bytes (drop n xs)
 bytes-drop zero xs p = p
 bytes-drop (suc n) [] p = tt
 bytes-drop (suc n) (x ∷ xs) p = bytes-drop n xs (p .1)
-
--- all items are bytes
-abbrev pub Items : List (List ℕ) → Type 0
-Items [] = Unit {0}
-Items (i ∷ is) = Bytes i × Items is
-
-pub items-append : (xs ys : List (List ℕ)) → Items xs → Items ys → Items (xs ++ ys)
-items-append [] ys p q = q
-items-append (x ∷ xs) ys p q = (p .0, items-append xs ys (p .1) q)
 
 pub bytes-joined : (most : ℕ) (ps : List (List ℕ)) → Portions most ps → Bytes (joined ps)
 bytes-joined most [] k = tt

@@ -15,14 +15,15 @@ use Rattle.framing.specs.declared.Met.{Met}
 use Rattle.framing.specs.declared.Met.the-variants.{Framing, Part, Whole, Mark}
 use Rattle.framing.specs.Cuts.{byte, close, mark, tells}
 use Rattle.listing.specs.Lent.{storedIn}
-use Rattle.lister.specs.declared.file.File.{File}
-use Rattle.lister.specs.declared.file.File.the-variants.{Empty, Heading, Large, Refused, Blocks}
-use Rattle.lister.specs.File.{partOf, bufferAfter, numbersAfter, itemEnd, saidOf}
+use Rattle.files.specs.declared.File.{File}
+use Rattle.files.specs.declared.File.the-variants.{Empty, Heading, Large, Refused, Blocks}
+use Rattle.files.specs.File.{partOf, bufferAfter, numbersAfter, itemEnd, saidOf}
 use Rattle.agree.specs.Calls.{Bytes}
 use Rattle.lister.specs.Turn.{saidAt, countBy, textBy, heardFile, heardHeader, heardNumbers}
-use Rattle.lister.proofs.Reader.{numbers-length}
-use Rattle.lister.proofs.Bytes.{Items, bytes-append, items-append}
-use Rattle.lister.proofs.Form.{fileAt, part-form, end-form}
+use Rattle.files.proofs.Reader.{numbers-length}
+use Rattle.files.proofs.Items.{Items, items-append}
+use Rattle.lister.proofs.Bytes.{bytes-append}
+use Rattle.files.proofs.Form.{fileAt, part-form, end-form}
 use Rattle.lister.proofs.Telling.{Sum, tell, tellAll, tell-append, tell-bytes, with-more}
 
 -- the lister has what was told; the header's buffer keeps the bytes of a header item that fits

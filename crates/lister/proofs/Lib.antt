@@ -3,10 +3,6 @@ pub mod Room
 pub mod Said
 pub mod Walking
 pub mod Bytes
-pub mod Reader
-pub mod Places
-pub mod Closes
-pub mod Form
 pub mod Telling
 pub mod Hearing
 pub mod Listed

@@ -22,14 +22,14 @@ use Rattle.framing.specs.Cuts.{part}
 use Rattle.framing.proofs.Forward.{forward}
 use Rattle.listing.specs.Lent.{lineRoom, lineIn, lineEnd}
 use Rattle.listing.proofs.Longest.{line-length, last-length}
-use Rattle.lister.specs.declared.file.File.{File}
-use Rattle.lister.specs.declared.file.File.the-variants.{Empty, Heading, Large, Refused, Blocks}
-use Rattle.lister.specs.declared.file.AtMark.{AtMark}
-use Rattle.lister.specs.declared.file.AtMark.the-variants.{Nothing, Line}
+use Rattle.files.specs.declared.File.{File}
+use Rattle.files.specs.declared.File.the-variants.{Empty, Heading, Large, Refused, Blocks}
+use Rattle.files.specs.declared.AtMark.{AtMark}
+use Rattle.files.specs.declared.AtMark.the-variants.{Nothing, Line}
 use Rattle.lister.specs.declared.Progress.{Progress}
 use Rattle.lister.specs.declared.Made.{Made}
 use Rattle.lister.specs.Listing.{headerRoom}
-use Rattle.lister.specs.File.{saidOf}
+use Rattle.files.specs.File.{saidOf}
 use Rattle.lister.specs.Turn.{Lister, nextNumber, saidAt, textBy, heardFile, turned, turns, walked}
 use Rattle.lister.specs.Calls.{leastFile, roomy, madeBy, lastBy}
 use Rattle.lister.proofs.Onward.{still}

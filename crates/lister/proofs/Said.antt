@@ -13,9 +13,9 @@ use Rattle.listing.specs.Lines.{lineOf}
 use Rattle.listing.specs.Lent.{lineRoom, lineIn, lineEnd}
 use Rattle.listing.proofs.Pieces.{sets-append}
 use Rattle.listing.proofs.Lent.{none}
-use Rattle.lister.specs.declared.file.File.{File}
-use Rattle.lister.specs.declared.file.AtMark.{AtMark}
-use Rattle.lister.specs.declared.file.AtMark.the-variants.{Nothing, Line}
+use Rattle.files.specs.declared.File.{File}
+use Rattle.files.specs.declared.AtMark.{AtMark}
+use Rattle.files.specs.declared.AtMark.the-variants.{Nothing, Line}
 use Rattle.lister.specs.declared.Heard.{Heard}
 use Rattle.lister.specs.Turn.{nextNumber, textBy, heardBy}
 use Rattle.lister.proofs.Room.{made}

@@ -8,11 +8,13 @@ use native.Mathlib.Omega.{arith}
 use lib.ListN.{length}
 use Rattle.framing.specs.Cuts.{Event, byte, close, mark, itemsTold, joined}
 use Rattle.listing.specs.Lines.{lineOf}
-use Rattle.lister.specs.File.{saidOf}
-use Rattle.lister.specs.Listing.{onto, filesOf, linesOf, outcomeOf}
+use Rattle.files.specs.File.{saidOf}
+use Rattle.files.specs.declared.AtMark.{AtMark}
+use Rattle.files.specs.Outcomes.{outcomeOf}
+use Rattle.lister.specs.Listing.{onto, filesOf, linesOf}
 use Rattle.lister.specs.Turn.{nextNumber, countBy, textBy}
-use Rattle.lister.proofs.Form.{fileAt, said-count, said-text}
-use Rattle.lister.proofs.Bytes.{Items, items-append}
+use Rattle.files.proofs.Items.{Items, items-append}
+use Rattle.files.proofs.Form.{fileAt, says}
 
 -- the items of the file so far, the bytes of the item that is open, the files with a line, and what was printed
 pub record Sum : Type 0 where
@@ -68,6 +70,14 @@ before-onto now item (f ∷ fs) = ap (λ (l : List (List ℕ)). l ∷ fs) (appen
 next-number : (count : ℕ) → count + 1 < 2 ^ 64 → nextNumber count ≡ count + 1
 next-number count h = mod-eq-of-lt h
 
+-- what is said of a file with a header item
+said-count : (cap : ℕ) (h : List ℕ) (blocks : List (List ℕ)) (count : ℕ) → Items (h ∷ blocks) → countBy (saidOf (fileAt cap (h ∷ blocks) [])) count ≡ nextNumber count
+said-count cap h blocks count p = ap (λ (m : AtMark). countBy m count) (says cap h blocks p .said)
+
+said-text : (cap : ℕ) (h : List ℕ) (blocks : List (List ℕ)) (count : ℕ) → Items (h ∷ blocks)
+    → textBy (saidOf (fileAt cap (h ∷ blocks) [])) count ≡ lineOf (nextNumber count) (outcomeOf cap h blocks)
+said-text cap h blocks count p = let s = says cap h blocks p in ap (λ (m : AtMark). textBy m count) (s .said) ∙ s .line (nextNumber count)
+
 -- all items told: the lines of their files
 tell-files : (cap count : ℕ) (now : List (List ℕ)) (out : List ℕ) (items : List (List ℕ)) → Items now → Items items → count + length items < 2 ^ 64
     → (tellAll cap (sum now count out) (itemsTold items)) .out ≡ out ++ joined (linesOf cap count (before now (filesOf items)))
@@ -77,7 +87,7 @@ tell-files cap count [] out ([] ∷ items) p q few =
     ∙ ap (λ (l : List ℕ). l ++ joined (linesOf cap count (before [] (filesOf items)))) (append-nil out)
     ∙ ap (λ (fs : List (List (List ℕ))). out ++ joined (linesOf cap count fs)) (before-none (filesOf items))
 tell-files cap count (h ∷ blocks) out ([] ∷ items) p q few =
-    rw (said-count cap h blocks count, said-text cap h blocks count p, append-nil blocks, next-number count (omega (arith, few)))
+    rw (said-count cap h blocks count p, said-text cap h blocks count p, append-nil blocks, next-number count (omega (arith, few)))
     (tell-files cap (count + 1) [] (out ++ lineOf (count + 1) (outcomeOf cap h blocks)) items tt (q .1) (omega (arith, few))
     ∙ ap (λ (fs : List (List (List ℕ))). (out ++ lineOf (count + 1) (outcomeOf cap h blocks)) ++ joined (linesOf cap (count + 1) fs)) (before-none (filesOf items))
     ∙ append-assoc out _ _)

@@ -11,7 +11,7 @@ use Rattle.framing.specs.declared.Frame.the-variants.{Start}
 use Rattle.framing.specs.Next.{endingOf}
 use Rattle.listing.specs.Lines.{lastOf}
 use Rattle.listing.specs.Lent.{lineRoom}
-use Rattle.lister.specs.declared.file.File.the-variants.{Empty}
+use Rattle.files.specs.declared.File.the-variants.{Empty}
 use Rattle.lister.specs.declared.Progress.{Progress}
 use Rattle.lister.specs.declared.Made.{Made}
 use Rattle.lister.specs.Listing.{headerRoom}

@@ -1,5 +1,4 @@
 pub mod Listing
-pub mod File
 pub mod Turn
 pub mod Calls
 pub mod Input

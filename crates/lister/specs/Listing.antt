@@ -2,22 +2,10 @@
 -- Assumes nothing.
 use Prim.Native.Nat.{ℕ, _+_}
 use mathlib.Core.List.{List, [], _∷_, _++_}
-use lib.Dec.{leb}
-use lib.ListN.{length}
-use Rattle.basis.specs.Choice.{pick}
-use Rattle.refusals.specs.declared.Refusal.the-variants as R
-use Rattle.codes.specs.Codes.{demultiplexed}
-use Rattle.header.specs.declared.Answer.{Answer}
-use Rattle.header.specs.declared.Answer.the-variants.{Accepted, Refused}
-use Rattle.header.specs.Answers.{headerAnswer}
-use Rattle.rules.specs.Tape.{Body}
-use Rattle.rules.specs.Scans.{shapeOf}
-use Rattle.rules.specs.Outcome.{Closing, report, refused, closing}
 use Rattle.framing.specs.Image.{readingOf}
 use Rattle.framing.specs.Cuts.{joined}
-use Rattle.listing.specs.declared.Outcome.{Outcome}
-use Rattle.listing.specs.declared.Outcome.the-variants as O
 use Rattle.listing.specs.Lines.{lineOf, lastOf}
+use Rattle.files.specs.Outcomes.{outcomeOf}
 
 -- an item belongs to the file whose mark comes next, if one comes
 abbrev pub onto : List ℕ → List (List (List ℕ)) → List (List (List ℕ))
@@ -30,37 +18,9 @@ filesOf [] = []
 filesOf ([] ∷ items) = [] ∷ filesOf items
 filesOf ((b ∷ bs) ∷ items) = onto (b ∷ bs) (filesOf items)
 
--- the body of some blocks, each with its end
-abbrev pub bodyIn : List (List ℕ) → Body
-bodyIn blocks = record { blocks = blocks; tail = [] }
-
--- "`file`, `format`, `scans`, `samples`, `off` with their values, or `refused R at P`", where P may be the body's length
-abbrev pub reported : ℕ → ℕ → ℕ → Closing → Outcome
-reported file format bytes (report t) = O.Listed file format (t .scans) (t .samples) (t .off)
-reported file format bytes (refused r) = O.Refused r bytes
-
--- bodies of scans are listed: a file whose header is accepted and of an 80xx code is DEMUX
-abbrev pub ofScans : Answer → Answer
-ofScans (Refused r) = Refused r
-ofScans (Accepted h) = pick (demultiplexed (h .code)) (Refused R.Demux) (Accepted h)
-
--- what is said to a file's header item
-abbrev pub headerSaid : List ℕ → Answer
-headerSaid header = ofScans (headerAnswer header)
-
--- by the header's answer, and by the rules of the uncut body
-abbrev pub byHeader : Answer → List ℕ → List (List ℕ) → Outcome
-byHeader (Refused r) header blocks = O.Refused r 0
-byHeader (Accepted h) header blocks =
-    reported (h .file) (h .code) (length (joined blocks)) (closing (shapeOf header) (bodyIn blocks))
-
 -- "LARGE, lister only: header item above 65,536 bytes"
 abbrev pub headerRoom : ℕ
 headerRoom = 65536
-
--- "In a file the first item is the header, the rest are blocks"; LARGE for a header item above cap bytes
-abbrev pub outcomeOf : ℕ → List ℕ → List (List ℕ) → Outcome
-outcomeOf cap header blocks = pick (leb (length header) cap) (byHeader (headerSaid header) header blocks) (O.Refused R.Large 0)
 
 -- a line for each file after the first `count`; "Files without an item are not numbered"
 abbrev pub linesOf : ℕ → ℕ → List (List (List ℕ)) → List (List ℕ)

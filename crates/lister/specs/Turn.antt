@@ -10,14 +10,14 @@ use Rattle.framing.specs.Next.{nextOf}
 use Rattle.framing.specs.Cuts.{part}
 use Rattle.listing.specs.Lines.{lineOf}
 use Rattle.listing.specs.Lent.{lineEnd}
-use Rattle.lister.specs.declared.file.File.{File}
-use Rattle.lister.specs.declared.file.File.the-variants.{Empty}
-use Rattle.lister.specs.declared.file.AtMark.{AtMark}
-use Rattle.lister.specs.declared.file.AtMark.the-variants.{Nothing, Line}
+use Rattle.files.specs.declared.File.{File}
+use Rattle.files.specs.declared.File.the-variants.{Empty}
+use Rattle.files.specs.declared.AtMark.{AtMark}
+use Rattle.files.specs.declared.AtMark.the-variants.{Nothing, Line}
 use Rattle.lister.specs.declared.Heard.{Heard}
 use Rattle.lister.specs.declared.Progress.{Progress}
 use Rattle.lister.specs.declared.Turn.{Turn}
-use Rattle.lister.specs.File.{partOf, bufferAfter, numbersAfter, itemEnd, saidOf}
+use Rattle.files.specs.File.{partOf, bufferAfter, numbersAfter, itemEnd, saidOf}
 
 -- what is said after an answer of `next`: of the file at its mark, else nothing
 abbrev pub saidAt : File → Met → AtMark

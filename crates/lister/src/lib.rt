@@ -1,7 +1,4 @@
 // The lister: a reel image that comes in portions, a line for each file, and the last line.
-mod file;
-
-pub use file::File;
 ghost use mathlib.Core.Path.{_≡_};
 ghost use mathlib.Core.Bool.{true};
 ghost use Prim.Native.Nat.{_<_};
@@ -9,15 +6,16 @@ ghost use lib.ListN.{length};
 ghost use lib.Seq.{sets};
 ghost use Rattle.io.specs.Counts.{Counts};
 ghost use Rattle.listing.specs.Lent.{lineIn, lineEnd};
-ghost use Rattle.lister.specs.declared.file.File.the-variants.{Empty};
-ghost use Rattle.lister.specs.File.{saidOf};
+ghost use Rattle.files.specs.declared.File.the-variants.{Empty};
+ghost use Rattle.files.specs.File.{saidOf};
 ghost use Rattle.lister.specs.Turn.{textBy, saidAt, heardBy, heardOf, heardHeader, heardNumbers, turnOf, turnHeader, turnNumbers, turnText, walked};
 ghost use Rattle.lister.specs.Calls.{begun, roomy, called, madeBy, lastBy};
 ghost use Rattle.lister.specs.Input.{arrivalOf};
-use file::AtMark;
-use file::item_end;
-use file::outcome;
-use file::part;
+use files::AtMark;
+use files::File;
+use files::item_end;
+use files::outcome;
+use files::part;
 use framing::Frame;
 use framing::Met;
 use libc::EINTR;
@@ -255,10 +253,11 @@ fn arrived(got: isize, error: i32, buf: &[u8]) -> Arrival
     }
 }
 
-// Lists the reel image that a descriptor holds: reads it and writes its lines, a portion at a time. A
-// proved loop has to end, so the reads are counted down, from a number that no run uses up.
+// Lists the reel image that a descriptor holds: reads it and writes its lines. What a read brought is two
+// portions, so that the lines of each have room. A proved loop has to end, so the reads are counted down,
+// from a number that no run uses up.
 pub fn list(fd: i32) {
-    let mut image = [0u8; 32768];
+    let mut image = io::large_buffer();
     let mut header = io::large_buffer();
     let mut numbers = [0i32; 65536];
     let mut lines = [0u8; 466048];
@@ -271,10 +270,27 @@ pub fn list(fd: i32) {
             break;
         }
         let n = a.bytes;
-        let made = walk(progress, &image[..n], &mut header, &mut numbers, &mut lines);
-        let length = made.length;
+        let half = n / 2;
+        let first = walk(
+            progress,
+            &image[..half],
+            &mut header,
+            &mut numbers,
+            &mut lines,
+        );
+        let length = first.length;
         io::write_all(STDOUT_FILENO, &lines[..length]);
-        progress = made.progress;
+        let middle = first.progress;
+        let second = walk(
+            middle,
+            &image[half..n],
+            &mut header,
+            &mut numbers,
+            &mut lines,
+        );
+        let length = second.length;
+        io::write_all(STDOUT_FILENO, &lines[..length]);
+        progress = second.progress;
         turns -= 1;
     }
     let length = finish(progress, &mut lines);

@@ -1,7 +1,7 @@
 -- `lister::mark` meets its contract: a line, or none.
 -- Assumes nothing.
 use Rattle.listing.proofs.Lent.{none}
-use Rattle.lister.specs.declared.file.File.the-variants.{Empty}
+use Rattle.files.specs.declared.File.the-variants.{Empty}
 use Rattle.lister.proofs.Said.{silent}
 use borrow.Author.Needs.{needs}
 use Rattle.lister.proofs.mark.Statement.{statement}

@@ -1,0 +1,5 @@
+pub mod Items
+pub mod Reader
+pub mod Places
+pub mod Closes
+pub mod Form
