@@ -20,7 +20,7 @@ use std::fmt::Debug;
 /// How much to compare.
 #[derive(Clone, Copy, PartialEq, Eq)]
 pub enum Effort {
-    /// for a run under a checker of memory, which takes many times as long
+    /// for a run under a checker of memory or an emulator, which takes many times as long
     Brief,
     Bounded,
     Full,
@@ -30,6 +30,9 @@ pub enum Effort {
 const BRIEFER: u64 = 40;
 const FEWEST: u64 = 100;
 
+/// A brief run asks every so manieth of the questions that are asked one by one.
+const STEP: usize = 7;
+
 impl Effort {
     /// One of two numbers, or a part of the first.
     pub fn of(self, bounded: u64, full: u64) -> u64 {
@@ -37,6 +40,22 @@ impl Effort {
             Effort::Brief => (bounded / BRIEFER).max(bounded.min(FEWEST)),
             Effort::Bounded => bounded,
             Effort::Full => full,
+        }
+    }
+
+    /// How far it is from a question to the next of many that differ in a number.
+    pub fn step(self) -> usize {
+        match self {
+            Effort::Brief => STEP,
+            Effort::Bounded | Effort::Full => 1,
+        }
+    }
+
+    /// What is said of such questions where not all of them are asked.
+    pub fn thinned(self) -> &'static str {
+        match self {
+            Effort::Brief => ", of which one in seven",
+            Effort::Bounded | Effort::Full => "",
         }
     }
 }

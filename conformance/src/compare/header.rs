@@ -85,12 +85,13 @@ fn rich_plan(rng: &mut Rng, code: u16) -> Plan {
 fn compare_each_byte(results: &mut Results, effort: Effort, code: u16) {
     let due: Vec<u8> =
         [0].into_iter().chain(HEADER_ROWS).filter(|row| may_come(code, *row)).collect();
-    let mut group = Group::new(&format!("headers of {code:04X}, each byte with each value"), &due);
+    let name = format!("headers of {code:04X}, each byte with each value{}", effort.thinned());
+    let mut group = Group::new(&name, &due);
     let mut rng = Rng::new(202 + u64::from(code));
     for _ in 0..effort.of(1, 8) {
         let plan = rich_plan(&mut rng, code);
         let block = header(&mut rng, &plan);
-        each_byte(&mut group, block);
+        each_byte(&mut group, block, effort.step());
     }
     results.code(code, group.asked());
     results.add(group);
@@ -100,10 +101,11 @@ fn may_come(code: u16, row: u8) -> bool {
     row != SHORT && row != SKEW && (row != FOUR || code == 0x0015)
 }
 
-fn each_byte(group: &mut Group, mut block: Vec<u8>) {
+/// A step of more than 1 begins at another value in the next byte.
+fn each_byte(group: &mut Group, mut block: Vec<u8>, step: usize) {
     for place in 0..block.len() {
         let kept = block[place];
-        for byte in 0..=u8::MAX {
+        for byte in (0..=u8::MAX).skip(place % step).step_by(step) {
             block[place] = byte;
             ask(group, &block);
         }

@@ -15,8 +15,8 @@ pub fn compare(results: &mut Results, effort: Effort) {
     compare_rows(results);
     compare_absent_rows(results);
     for code in [0x0022, 0x0042, 0x0024, 0x0044, 0x0015] {
-        compare_every_word(results, code);
-        compare_every_word(results, code | 0x8000);
+        compare_every_word(results, effort, code);
+        compare_every_word(results, effort, code | 0x8000);
     }
     let long = "words of 0048, every sign and exponent";
     compare_long_words(results, long, 0x0048, effort.of(36_000, 400_000));
@@ -102,11 +102,14 @@ fn add(results: &mut Results, code: u16, group: Group) {
     results.add(group);
 }
 
-/// Every exponent and word of a code, both also with one bit too many.
-fn compare_every_word(results: &mut Results, code: u16) {
-    let mut group = Group::new(&format!("words of {code:04X}, every one"), &INDEX_OR_NOT);
+/// Every exponent and word of a code, both also with one bit too many. Where an
+/// exponent stands apart they are so many that a brief run leaves some out.
+fn compare_every_word(results: &mut Results, effort: Effort, code: u16) {
+    let effort = if outer_bits(code) > 0 { effort } else { Effort::Bounded };
+    let name = format!("words of {code:04X}, every one{}", effort.thinned());
+    let mut group = Group::new(&name, &INDEX_OR_NOT);
     for c in 0..2u32 << outer_bits(code) {
-        for word in 0..2u32 << letters(code).len() {
+        for word in (0..2u32 << letters(code).len()).step_by(effort.step()) {
             ask(&mut group, code, c, word);
         }
     }
