@@ -1,9 +1,9 @@
 /*
  * deck IMAGE RECORD SAMPLES - reads one record of a reel image, and writes its samples to a file that is not there yet.
  *
- * It reads multiplexed records; of a demultiplexed one (a code 80xx) it says DEMUX, as the lister does, since the library does not read
- * bodies of traces yet. It needs the same memory for every reel, and trusts nothing in the image: what the library does not check (the image's framing, the
- * length of a header item) is checked here. The exit status says how it went; README.md beside this file tells the formats.
+ * It reads multiplexed records, scan by scan, and demultiplexed ones (a code 80xx), trace by trace. It needs the same memory for every
+ * reel, and trusts nothing in the image: what the library does not check (the image's framing, the length of a header item) is checked
+ * here. The exit status says how it went; README.md beside this file tells the formats.
  */
 #include "segd.h"
 
@@ -25,9 +25,12 @@ typedef struct {
     FILE *image;
     const char *samples_path;
     FILE *samples;      /* null until the header is accepted: a refused header leaves no file */
+    uint32_t length;    /* of the header block, which calls on traces are lent each time */
     SegdGeneral header;
-    SegdTold refusal;   /* of the header, or DEMUX; all 0 where the body is read */
-    SegdState state;
+    SegdTold refusal;   /* of the header; all 0 where the body is read */
+    uint8_t kind;       /* of the body: whose state goes on, */
+    SegdState state;    /* that of scans */
+    SegdTraces traces;  /* or that of traces */
     uint64_t kept;      /* samples written so far */
 } Deck;
 
@@ -38,7 +41,7 @@ static uint8_t packed[SAMPLE_BYTES * PORTION];
 
 static const char *const refusal_names[] = {
     "", "SHORT", "FORMAT", "DEMUX", "DIGIT", "RANGE", "LENGTH", "DESCRIPTOR", "FOUR", "SIZE", "SKEW", "INDEX", "SHEET", "ROOM", "LONG",
-    "BLOCK", "SYNC", "TIMING", "PHASE", "PART", "OPEN", "MISSING", "LARGE", "STATE",
+    "BLOCK", "SYNC", "TIMING", "PHASE", "PART", "OPEN", "MISSING", "LARGE", "STATE", "TRACE", "COUNT",
 };
 
 /* ---- The image ---- */
@@ -147,20 +150,37 @@ static Step read_header(Deck *deck, uint32_t length)
     if (step != FINE)
         return step;
     SegdOpened opened = segd_open(block, length);
+    deck->length = length;
     deck->header = segd_read_header(block, length).header;
     deck->refusal = opened.refusal;
-    if (opened.kind == SEGD_TRACES)
-        deck->refusal.number = SEGD_DEMUX;
+    deck->kind = opened.kind;
     deck->state = opened.state;
+    deck->traces = opened.traces;
     return deck->refusal.number == 0 ? open_samples(deck) : FINE;
 }
 
 static Step read_portion(Deck *deck, size_t count)
 {
-    SegdGave gave = segd_portion(deck->state, bytes, count, numbers, 2 * PORTION);
+    uint64_t samples;
 
-    deck->state = gave.state;
-    return write_samples(deck, (size_t)gave.samples);
+    if (deck->kind == SEGD_TRACES) {
+        SegdTraceGave gave = segd_trace_portion(block, deck->length, deck->traces, bytes, count, numbers, 2 * PORTION);
+        deck->traces = gave.state;
+        samples = gave.samples;
+    } else {
+        SegdGave gave = segd_portion(deck->state, bytes, count, numbers, 2 * PORTION);
+        deck->state = gave.state;
+        samples = gave.samples;
+    }
+    return write_samples(deck, (size_t)samples);
+}
+
+static void end_block(Deck *deck)
+{
+    if (deck->kind == SEGD_TRACES)
+        deck->traces = segd_trace_end(block, deck->length, deck->traces).state;
+    else
+        deck->state = segd_block_end(deck->state).state;
 }
 
 /* The bytes before a cut are read too: they may be the last that there are. */
@@ -176,7 +196,7 @@ static Step read_block(Deck *deck, uint32_t left)
             return after_short_read(deck->image);
         left -= wanted;
     }
-    deck->state = segd_block_end(deck->state).state;
+    end_block(deck);
     return FINE;
 }
 
@@ -225,7 +245,11 @@ static void print_report(const Deck *deck, uint64_t record, const SegdClosing *c
 {
     printf("record %" PRIu64 " file %04u format %04x scans %" PRIu32 " samples %" PRIu64 " off %" PRIu32 "\n", record,
            (unsigned)deck->header.file, (unsigned)deck->header.code, closing->scans, closing->samples, closing->off);
-    printf("last scan type %" PRIu32 ", ITB %" PRIu32 ", ", closing->last_type, closing->itb);
+    printf("last scan type %" PRIu32 ", ", closing->last_type);
+    if (closing->itb_known)
+        printf("ITB %" PRIu32 ", ", closing->itb);
+    else
+        printf("no ITB, ");
     if (closing->window_known)
         printf("window at %" PRIu32 "\n", closing->window);
     else
@@ -235,9 +259,11 @@ static void print_report(const Deck *deck, uint64_t record, const SegdClosing *c
 /* Where a refusal is: a stop at its place, an unfinished body at its length, a header at 0. */
 static uint32_t place_of(const Deck *deck, SegdTold told)
 {
-    if (told.number >= SEGD_LONG && told.number <= SEGD_PHASE)
+    if ((told.number >= SEGD_LONG && told.number <= SEGD_PHASE) || told.number == SEGD_TRACE || told.number == SEGD_COUNT)
         return told.first;
-    return deck->state.place;
+    if (told.number == SEGD_FOUR)
+        return told.third;
+    return deck->kind == SEGD_TRACES ? deck->traces.place : deck->state.place;
 }
 
 static void print_refusal(const Deck *deck, uint64_t record, SegdTold told)
@@ -253,7 +279,8 @@ static void print_refusal(const Deck *deck, uint64_t record, SegdTold told)
 
 static int tell_record(const Deck *deck, uint64_t record)
 {
-    SegdClosing closing = segd_close(deck->state);
+    SegdClosing closing =
+        deck->kind == SEGD_TRACES ? segd_trace_close(block, deck->length, deck->traces) : segd_close(deck->state);
     SegdTold told = deck->refusal.number != 0 ? deck->refusal : closing.refusal;
 
     if (told.number != 0) {

@@ -56,7 +56,7 @@ static int same_state(SegdState a, SegdState b)
 
 static int is_refusal(SegdTold told, uint32_t number, uint32_t first)
 {
-    return told.number == number && told.first == first && told.second == 0;
+    return told.number == number && told.first == first && told.second == 0 && told.third == 0;
 }
 
 static int no_report(SegdClosing closing)
@@ -264,24 +264,176 @@ static void try_cut_blocks(void)
     try_refused_block(pages, page, SEGD_FORMAT);
 }
 
-/* Case L's header in each code 80xx: it is accepted, and what its opening hands out is unfit for the calls on scans. */
-static void try_traces(void)
+/* ---- Traces ---- */
+
+/* Case L's header in 8022, and the first trace of its body: a trace header and two samples. */
+static uint8_t traces[sizeof case_l];
+static const uint8_t trace[22] = {0x00, 0x07, 0x01, 0x01, 0x00, 0x01, 0, 0, 0, 0, 0, 0, 0, 0, 0, 0, 0, 0, 0, 0, 0x18, 0x97};
+
+static SegdTraces fresh_traces(void)
 {
-    static const uint8_t codes[] = {0x15, 0x22, 0x24, 0x42, 0x44, 0x48};
-    static const SegdState nothing;
-    uint8_t traces[sizeof case_l];
+    return segd_open(traces, sizeof traces).traces;
+}
+
+static SegdTraceGave trace_portion(const uint8_t *block, size_t block_length, SegdTraces state, size_t length, size_t room)
+{
+    for (size_t i = 0; i < ROOM; i++)
+        out[i] = UNTOUCHED;
+    return segd_trace_portion(block, block_length, state, trace, length, out, room);
+}
+
+static int same_traces(SegdTraces a, SegdTraces b)
+{
+    return a.code == b.code && a.place == b.place && a.ends == b.ends && a.at == b.at && a.samples == b.samples && a.off == b.off &&
+           a.present == b.present && a.scans == b.scans && a.held == b.held && a.exponents == b.exponents && a.stop == b.stop &&
+           a.stopat == b.stopat;
+}
+
+/* Whether a portion or a block end of traces answered so, wrote nothing and gave the state back. */
+static int traces_answered(SegdTraceGave gave, SegdTraces state, uint32_t outcome, uint32_t number, uint32_t first)
+{
+    return gave.outcome == outcome && is_refusal(gave.refusal, number, first) && gave.samples == 0 && same_traces(gave.state, state) &&
+           untouched_past(0);
+}
+
+/* Whether every call on a state of traces, lent a block, answers so. */
+static int all_traces_answer(const uint8_t *block, size_t length, SegdTraces state, uint32_t outcome, uint32_t number, uint32_t first)
+{
+    SegdClosing closing = segd_trace_close(block, length, state);
+
+    return traces_answered(trace_portion(block, length, state, sizeof trace, ROOM), state, outcome, number, first) &&
+           traces_answered(trace_portion(block, length, state, sizeof trace, 1), state, outcome, number, first) &&
+           traces_answered(trace_portion(block, length, state, 0, 0), state, outcome, number, first) &&
+           traces_answered(segd_trace_end(block, length, state), state, outcome, number, first) &&
+           is_refusal(closing.refusal, number, first) && no_report(closing);
+}
+
+static int traces_refused_as_unfit(SegdTraces state)
+{
+    return all_traces_answer(traces, sizeof traces, state, SEGD_REFUSED, SEGD_STATE, 0);
+}
+
+/* Case L's header in each code 80xx: it is accepted, and what its opening hands out is fit for the calls on traces alone. */
+static void try_trace_openings(void)
+{
+    static const uint8_t codes[] = {0x15, 0x24, 0x42, 0x44, 0x48, 0x22};
+    static const SegdState no_scans;
+    static const SegdTraces nothing;
 
     memcpy(traces, case_l, sizeof case_l);
     traces[2] = 0x80;
+    try_refused_block(traces, sizeof traces, SEGD_RANGE);
     traces[21] = 0x00;
     for (size_t i = 0; i < sizeof codes; i++) {
         traces[3] = codes[i];
         SegdOpened opened = segd_open(traces, sizeof traces);
         HOLDS(is_refusal(opened.refusal, 0, 0) && opened.kind == SEGD_TRACES);
-        HOLDS(same_state(opened.state, nothing) && refused_as_unfit(opened.state));
+        HOLDS(same_state(opened.state, no_scans) && refused_as_unfit(opened.state));
+        HOLDS(traces_answered(trace_portion(traces, sizeof traces, opened.traces, 0, 0), opened.traces, SEGD_GOING_ON, 0, 0));
+        HOLDS(is_refusal(segd_trace_close(traces, sizeof traces, opened.traces).refusal, SEGD_MISSING, 0));
     }
-    traces[21] = 0x12;
-    try_refused_block(traces, sizeof traces, SEGD_RANGE);
+    HOLDS(same_traces(segd_open(case_l, sizeof case_l).traces, nothing));
+    HOLDS(same_traces(segd_open(traces, 31).traces, nothing));
+    HOLDS(traces_refused_as_unfit(nothing));
+}
+
+/* One number of a sound state after 22 bytes, a step past what it may be. */
+static void try_forged_traces(void)
+{
+    static const struct {
+        size_t field;
+        uint32_t value;
+    } forged[] = {
+        {offsetof(SegdTraces, place), 21},       {offsetof(SegdTraces, at), 23},          {offsetof(SegdTraces, at), UINT32_MAX},
+        {offsetof(SegdTraces, ends), 1},         {offsetof(SegdTraces, scans), 1},        {offsetof(SegdTraces, present), 23},
+        {offsetof(SegdTraces, samples), 23},     {offsetof(SegdTraces, off), 23},         {offsetof(SegdTraces, stopat), 23},
+        {offsetof(SegdTraces, exponents), 65536}, {offsetof(SegdTraces, stop), 1},        {offsetof(SegdTraces, stop), SEGD_ROOM},
+        {offsetof(SegdTraces, stop), SEGD_SYNC}, {offsetof(SegdTraces, stop), SEGD_PHASE}, {offsetof(SegdTraces, stop), 26},
+    };
+    SegdTraces state;
+
+    memset(&state, 0xFF, sizeof state);
+    HOLDS(traces_refused_as_unfit(state));
+    for (size_t i = 0; i < sizeof forged / sizeof forged[0]; i++) {
+        state = trace_portion(traces, sizeof traces, fresh_traces(), sizeof trace, ROOM).state;
+        memcpy((char *)&state + forged[i].field, &forged[i].value, sizeof forged[i].value);
+        HOLDS(traces_refused_as_unfit(state));
+    }
+    state = fresh_traces();
+    state.place = 5;
+    state.ends = 4;
+    HOLDS(is_refusal(segd_trace_close(traces, sizeof traces, state).refusal, 0, 0));
+    state.ends = 5; /* the record has four traces */
+    HOLDS(traces_refused_as_unfit(state));
+}
+
+/* Lent another block than that of the opening: its refusals come before all else, and a state of another code is unfit for it. */
+static void try_other_blocks(void)
+{
+    SegdTraces state = trace_portion(traces, sizeof traces, fresh_traces(), sizeof trace, ROOM).state;
+    SegdTraces stopped = segd_trace_end(traces, sizeof traces, segd_trace_end(traces, sizeof traces, state).state).state;
+    uint8_t other[sizeof traces];
+
+    HOLDS(all_traces_answer(traces, 31, state, SEGD_REFUSED, SEGD_SHORT, 0));
+    HOLDS(all_traces_answer(traces, 63, stopped, SEGD_REFUSED, SEGD_LENGTH, 0));
+    HOLDS(all_traces_answer(case_l, sizeof case_l, state, SEGD_REFUSED, SEGD_STATE, 0));
+    HOLDS(all_traces_answer(case_l, sizeof case_l, stopped, SEGD_REFUSED, SEGD_STATE, 0));
+    memcpy(other, traces, sizeof other);
+    other[3] = 0x24;
+    HOLDS(all_traces_answer(other, sizeof other, state, SEGD_REFUSED, SEGD_STATE, 0));
+    HOLDS(all_traces_answer(traces, sizeof traces, stopped, SEGD_STOPPED, SEGD_BLOCK, 22));
+    HOLDS(is_refusal(segd_trace_place(traces, 63, 0, 0).refusal, SEGD_LENGTH, 0));
+    HOLDS(is_refusal(segd_trace_place(case_l, sizeof case_l, 0, 0).refusal, SEGD_INDEX, 0));
+    HOLDS(is_refusal(segd_trace_place(traces, sizeof traces, 4, 0).refusal, SEGD_INDEX, 0));
+    HOLDS(is_refusal(segd_trace_place(traces, sizeof traces, UINT32_MAX, UINT32_MAX).refusal, SEGD_INDEX, 0));
+}
+
+/* A stop stays what its numbers say; the last place of a body stops it; too little room changes nothing. */
+static void try_trace_limits(void)
+{
+    static const uint32_t stops[] = {SEGD_LONG, SEGD_BLOCK, SEGD_TRACE, SEGD_COUNT};
+    SegdTraces state = fresh_traces();
+
+    for (size_t room = 0; room < 2 * sizeof trace; room++)
+        HOLDS(traces_answered(trace_portion(traces, sizeof traces, state, sizeof trace, room), state, SEGD_REFUSED, SEGD_ROOM, 0));
+    state.place = UINT32_MAX;
+    SegdTraceGave gave = trace_portion(traces, sizeof traces, state, sizeof trace, ROOM);
+    HOLDS(gave.outcome == SEGD_STOPPED && is_refusal(gave.refusal, SEGD_LONG, UINT32_MAX) && gave.samples == 0 && untouched_past(0));
+    state.stopat = 5;
+    for (size_t i = 0; i < sizeof stops / sizeof stops[0]; i++) {
+        state.stop = stops[i];
+        HOLDS(all_traces_answer(traces, sizeof traces, state, SEGD_STOPPED, stops[i], 5));
+    }
+    state.stop = SEGD_FOUR;
+    SegdTold told = segd_trace_close(traces, sizeof traces, state).refusal;
+    HOLDS(told.number == SEGD_FOUR && told.first == 1 && told.second == 1 && told.third == 5);
+}
+
+/* A state of traces made up inside the limits, in any code: it answers and keeps to its room. */
+static void try_made_up_traces(void)
+{
+    static const uint8_t codes[] = {0x15, 0x22, 0x24, 0x42, 0x44, 0x48};
+    int kept_to_room = 1, wrote = 0;
+
+    for (int round = 0; round < 20000; round++) {
+        traces[3] = codes[any() % 6];
+        SegdTraces state = fresh_traces();
+        state.place = any() % 2 ? any() : 64 + any() % 64;
+        state.at = any() % 2 ? state.place / 2 : any() % 32;
+        state.ends = any() % 4;
+        state.samples = state.off = state.present = state.place;
+        state.scans = state.place - state.at;
+        state.held = any();
+        state.exponents = any() % 65536;
+        SegdTraceGave gave = trace_portion(traces, sizeof traces, state, sizeof trace, 2 * sizeof trace);
+        kept_to_room = kept_to_room && gave.outcome <= SEGD_STOPPED && gave.samples <= sizeof trace && untouched_past(gave.samples);
+        wrote += gave.samples > 0;
+        segd_trace_end(traces, sizeof traces, gave.state);
+        segd_trace_close(traces, sizeof traces, gave.state);
+    }
+    HOLDS(kept_to_room);
+    HOLDS(wrote > 0);
+    traces[3] = 0x22;
 }
 
 /* An accepted header, asked about what it has not. */
@@ -323,7 +475,11 @@ int main(void)
     try_made_up();
     try_room();
     try_cut_blocks();
-    try_traces();
+    try_trace_openings();
+    try_forged_traces();
+    try_other_blocks();
+    try_trace_limits();
+    try_made_up_traces();
     try_questions();
     return finish();
 }

@@ -8,26 +8,29 @@
 #include <string.h>
 
 /* The sizes that #[repr(C)] gives the library's structs on a machine of 64 bits. */
-_Static_assert(sizeof(SegdTold) == 12, "refusals::Told");
+_Static_assert(sizeof(SegdTold) == 16, "refusals::Told");
 _Static_assert(sizeof(SegdFormat) == 28, "deck::SegdFormat");
-_Static_assert(sizeof(SegdWord) == 24, "deck::SegdWord");
+_Static_assert(sizeof(SegdWord) == 28, "deck::SegdWord");
 _Static_assert(sizeof(SegdPair) == 2, "deck::SegdPair");
 _Static_assert(sizeof(SegdGeneral) == 40, "header::Header");
-_Static_assert(sizeof(SegdHeader) == 52, "deck::SegdHeader");
+_Static_assert(sizeof(SegdHeader) == 56, "deck::SegdHeader");
 _Static_assert(sizeof(SegdSet) == 28, "sets::ChannelSet");
-_Static_assert(sizeof(SegdChannelSet) == 40, "deck::SegdChannelSet");
-_Static_assert(sizeof(SegdIndex) == 16, "deck::SegdIndex");
-_Static_assert(sizeof(SegdPlace) == 24, "deck::SegdPlace");
+_Static_assert(sizeof(SegdChannelSet) == 44, "deck::SegdChannelSet");
+_Static_assert(sizeof(SegdIndex) == 20, "deck::SegdIndex");
+_Static_assert(sizeof(SegdPlace) == 28, "deck::SegdPlace");
 _Static_assert(sizeof(SegdPart) == 32, "deck::SegdPart");
-_Static_assert(sizeof(SegdSkew) == 32, "deck::SegdSkew");
-_Static_assert(sizeof(SegdByte) == 16, "deck::SegdByte");
-_Static_assert(sizeof(SegdTime) == 16, "deck::SegdTime");
+_Static_assert(sizeof(SegdSkew) == 40, "deck::SegdSkew");
+_Static_assert(sizeof(SegdByte) == 20, "deck::SegdByte");
+_Static_assert(sizeof(SegdTime) == 20, "deck::SegdTime");
 _Static_assert(sizeof(SegdShape) == 20, "scan::Shape");
 _Static_assert(sizeof(SegdTrack) == 20, "scan::Track");
 _Static_assert(sizeof(SegdState) == 68, "scan::State");
-_Static_assert(sizeof(SegdOpened) == 84, "deck::SegdOpened");
+_Static_assert(sizeof(SegdTraces) == 48, "trace::State");
+_Static_assert(sizeof(SegdOpened) == 136, "deck::SegdOpened");
 _Static_assert(sizeof(SegdGave) == 96, "deck::SegdGave");
 _Static_assert(sizeof(SegdClosing) == 56, "deck::SegdClosing");
+_Static_assert(sizeof(SegdTraceGave) == 80, "deck::SegdTraceGave");
+_Static_assert(sizeof(SegdTracePlace) == 36, "deck::SegdTracePlace");
 
 enum { SCAN_TYPES = 2, SETS = 3, SKEW_FIELDS = 5, EXTRAS = 4 + 6, FIELD = 32 };
 enum { TYPE_FIELDS = SETS + SKEW_FIELDS, BLOCK = FIELD * (1 + SCAN_TYPES * TYPE_FIELDS + EXTRAS) };
@@ -159,6 +162,7 @@ static void try_told(void)
     SAME(told.number, SEGD_DESCRIPTOR);
     SAME(told.first, 2);
     SAME(told.second, 3);
+    SAME(told.third, 0);
     *notch = 0x67;
 }
 
@@ -225,28 +229,155 @@ static SegdState open_body(void)
     SegdOpened opened = segd_open(small, sizeof small);
     SAME(opened.refusal.number, 0);
     SAME(opened.kind, SEGD_SCANS);
+    SAME(opened.traces.code, 0);
     return opened.state;
 }
 
-/* Case L's header in 8022: B is 0, and the body another. */
-static void try_traces(void)
-{
-    uint8_t traces[sizeof case_l];
+/* A record of 8015: case L's header with B 0, and two scan types, one of a channel of two subscans and one of two channels. */
+static uint8_t demultiplexed[FIELD * 3];
 
-    memcpy(traces, case_l, sizeof case_l);
-    traces[2] = 0x80;
-    SAME(segd_open(traces, sizeof traces).refusal.number, SEGD_RANGE);
-    SAME(segd_open(traces, sizeof traces).kind, 0);
-    traces[21] = 0x00;
-    SegdOpened opened = segd_open(traces, sizeof traces);
+static void build_traces(void)
+{
+    memcpy(demultiplexed, case_l, sizeof case_l);
+    memcpy(demultiplexed + 2 * FIELD, case_l + FIELD, FIELD);
+    demultiplexed[2] = 0x80;
+    demultiplexed[3] = 0x15;
+    demultiplexed[21] = 0x00;
+    demultiplexed[27] = 0x02;
+    demultiplexed[FIELD + 9] = 0x01;
+    demultiplexed[FIELD + 11] = 0x10;
+    demultiplexed[2 * FIELD] = 0x02;
+    demultiplexed[2 * FIELD + 9] = 0x02;
+}
+
+/* A trace header of 20 bytes and a group of ten, so often; each group has a word off rule. Gives the bytes. */
+enum { TRACE_HEADER = 20, GROUP = 10, LONGEST_TRACE = TRACE_HEADER + 2 * GROUP };
+
+static size_t build_trace(uint8_t *to, uint8_t scan_type, uint8_t channel, size_t groups)
+{
+    static const uint8_t group[GROUP] = {0x12, 0x34, 0x00, 0x02, 0xFF, 0xFF, 0x80, 0x00, 0x00, 0x09};
+    const uint8_t turn[6] = {0x00, 0x07, scan_type, 0x01, 0x00, channel};
+
+    memset(to, 0, TRACE_HEADER);
+    memcpy(to, turn, sizeof turn);
+    for (size_t i = 0; i < groups; i++)
+        memcpy(to + TRACE_HEADER + GROUP * i, group, GROUP);
+    return TRACE_HEADER + GROUP * groups;
+}
+
+static SegdTraces open_traces(void)
+{
+    SegdOpened opened = segd_open(demultiplexed, sizeof demultiplexed);
+
     SAME(opened.refusal.number, 0);
     SAME(opened.kind, SEGD_TRACES);
     SAME(opened.state.shape.code, 0);
-    SegdHeader answer = segd_read_header(traces, sizeof traces);
+    SAME(opened.traces.code, 0x8015);
+    SAME(opened.traces.place, 0);
+    return opened.traces;
+}
+
+static void try_trace_header(void)
+{
+    uint8_t wrong[sizeof demultiplexed];
+
+    memcpy(wrong, demultiplexed, sizeof wrong);
+    wrong[21] = 0x12;
+    SAME(segd_open(wrong, sizeof wrong).refusal.number, SEGD_RANGE);
+    SAME(segd_open(wrong, sizeof wrong).kind, 0);
+    SegdHeader answer = segd_read_header(demultiplexed, sizeof demultiplexed);
     SAME(answer.refusal.number, 0);
-    SAME(answer.header.code, 0x8022);
+    SAME(answer.header.code, 0x8015);
     SAME(answer.header.bytes_per_scan, 0);
-    SAME(answer.header.samples_per_scan, 4);
+    SAME(answer.header.samples_per_scan, 2);
+}
+
+/* Reads a whole trace of so many groups. */
+static SegdTraceGave read_trace(SegdTraces state, uint8_t scan_type, uint8_t channel, size_t groups, int32_t *out)
+{
+    uint8_t trace[LONGEST_TRACE];
+    size_t length = build_trace(trace, scan_type, channel, groups);
+
+    return segd_trace_portion(demultiplexed, sizeof demultiplexed, state, trace, length, out, 2 * LONGEST_TRACE);
+}
+
+/* Every field of a state, in the second group of a third trace that stops inside it. */
+static void try_trace_state(const SegdTraces *state)
+{
+    SAME(state->code, 0x8015);
+    SAME(state->place, 40 + 30 + 34);
+    SAME(state->ends, 2);
+    SAME(state->at, 34);
+    SAME(state->samples, 8 + 4 + 5);
+    SAME(state->off, 2 + 1 + 1);
+    SAME(state->present, 4);
+    SAME(state->scans, 4 + 4);
+    SAME(state->held, 0x12340002);
+    SAME(state->exponents, 0x1234);
+    SAME(state->stop, SEGD_FOUR);
+    SAME(state->stopat, 104);
+}
+
+static void try_trace_report(SegdTraces state)
+{
+    SegdClosing closing = segd_trace_close(demultiplexed, sizeof demultiplexed, state);
+
+    SAME(closing.refusal.number, 0);
+    SAME(closing.scans, 8);
+    SAME(closing.off, 4);
+    SAME(closing.samples, 16);
+    SAME(closing.last_type, 2);
+    SAME(closing.itb_known, 0);
+    SAME(closing.itb, 0);
+    SAME(closing.window_known, 0);
+    SAME(closing.window, 0);
+}
+
+/* Traces of eight, four and four samples; the last once more, six bytes short of its second group. */
+static void try_traces(void)
+{
+    int32_t out[2 * LONGEST_TRACE];
+    const size_t length = sizeof demultiplexed;
+    SegdTraceGave gave = read_trace(open_traces(), 1, 1, 2, out);
+    SAME(gave.outcome, SEGD_GOING_ON);
+    SAME(gave.samples, 8);
+    SAME(out[0], 2);
+    SAME(out[1], 1 - 15);
+    SAME(out[5], 3 - 15);
+    SAME(out[4], -32767);
+    SegdTraces first = segd_trace_end(demultiplexed, length, gave.state).state;
+    SAME(first.present, 4);
+    SAME(first.at, 0);
+    SegdTraces second = segd_trace_end(demultiplexed, length, read_trace(first, 2, 1, 1, out).state).state;
+    try_trace_report(segd_trace_end(demultiplexed, length, read_trace(second, 2, 2, 1, out).state).state);
+
+    uint8_t trace[LONGEST_TRACE];
+    build_trace(trace, 2, 2, 2);
+    SegdTraces cut = segd_trace_portion(demultiplexed, length, second, trace, 34, out, 68).state;
+    gave = segd_trace_end(demultiplexed, length, cut);
+    SAME(gave.outcome, SEGD_STOPPED);
+    SAME(gave.refusal.number, SEGD_FOUR);
+    SAME(gave.refusal.first, 2);
+    SAME(gave.refusal.second, 1);
+    SAME(gave.refusal.third, 104);
+    SAME(gave.samples, 0);
+    try_trace_state(&gave.state);
+}
+
+static void try_trace_place(void)
+{
+    SegdTracePlace place = segd_trace_place(demultiplexed, sizeof demultiplexed, 0, 7);
+
+    SAME(place.refusal.number, 0);
+    SAME(place.scan_type, 1);
+    SAME(place.set, 1);
+    SAME(place.channel, 1);
+    SAME(place.scan, 3);
+    SAME(place.subscan, 1);
+    SAME(segd_trace_place(demultiplexed, sizeof demultiplexed, 2, 9).scan_type, 2);
+    SAME(segd_trace_place(demultiplexed, sizeof demultiplexed, 2, 9).channel, 2);
+    SAME(segd_trace_place(demultiplexed, sizeof demultiplexed, 2, 9).scan, 9);
+    SAME(segd_trace_place(demultiplexed, sizeof demultiplexed, 3, 0).refusal.number, SEGD_INDEX);
 }
 
 static void try_state(const SegdState *state)
@@ -316,6 +447,9 @@ int main(void)
     try_places();
     try_skew();
     try_body();
+    build_traces();
+    try_trace_header();
     try_traces();
+    try_trace_place();
     return finish();
 }

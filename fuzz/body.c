@@ -5,9 +5,6 @@
 
 #include <string.h>
 
-/* What output holds before a call: no M and no X is so large. */
-#define UNTOUCHED 0x5AA55AA5
-
 int same_state(const SegdState *a, const SegdState *b)
 {
     size_t from = offsetof(SegdState, shape.scan); /* before it stand the code and two bytes of nothing */
@@ -21,7 +18,7 @@ static int is_fit(SegdState state)
 
 static int tells(SegdTold told, uint32_t number, uint32_t first)
 {
-    return told.number == number && told.first == first && told.second == 0;
+    return told.number == number && told.first == first && told.second == 0 && told.third == 0;
 }
 
 /* A call that is turned away with nothing changed: 1 where it has to be, for an unfit state or an earlier stop. */
@@ -66,7 +63,7 @@ static void check_portion(const SegdState *before, size_t length, size_t room, c
     DEMAND(gave->outcome == SEGD_STOPPED || gave->state.place == before->place + length);
 }
 
-static int32_t *lend_output(size_t room)
+int32_t *lend_output(size_t room)
 {
     int32_t *out = lend_room(LENT_OUT, room * sizeof *out);
     for (size_t i = 0; i < room; i++)
@@ -74,8 +71,20 @@ static int32_t *lend_output(size_t room)
     return out;
 }
 
+void take_numbers(struct reading *reading, const int32_t *out, size_t room, uint64_t samples)
+{
+    size_t written = 2 * (size_t)samples;
+    DEMAND(written <= room);
+    for (size_t i = written; i < room; i++)
+        DEMAND(out[i] == UNTOUCHED);
+    memcpy(reading->numbers + reading->count, out, written * sizeof *out);
+    reading->count += written;
+}
+
 int put_portion(struct reading *reading, const uint8_t *bytes, size_t length, size_t room)
 {
+    if (reading->kind == SEGD_TRACES)
+        return put_trace_portion(reading, bytes, length, room);
     SegdState before = reading->state;
     const uint8_t *lent = lend(LENT_BYTES, bytes, length);
     int32_t *out = lend_output(room);
@@ -83,20 +92,18 @@ int put_portion(struct reading *reading, const uint8_t *bytes, size_t length, si
 
     came_up(CALL_PORTION, gave.refusal.number, before.shape.code);
     check_portion(&before, length, room, &gave);
-    size_t written = 2 * (size_t)gave.samples;
-    DEMAND(written <= room);
-    for (size_t i = written; i < room; i++)
-        DEMAND(out[i] == UNTOUCHED);
+    take_numbers(reading, out, room, gave.samples);
     DEMAND(length == 0 || memcmp(lent, bytes, length) == 0);
-
-    memcpy(reading->numbers + reading->count, out, written * sizeof *out);
-    reading->count += written;
     reading->state = gave.state;
     return gave.outcome != SEGD_REFUSED;
 }
 
 void put_block_end(struct reading *reading)
 {
+    if (reading->kind == SEGD_TRACES) {
+        put_trace_end(reading);
+        return;
+    }
     SegdState before = reading->state;
     SegdGave gave = segd_block_end(before);
 
@@ -109,14 +116,17 @@ void put_block_end(struct reading *reading)
     reading->state = gave.state;
 }
 
-static int is_empty(const SegdClosing *closing)
+int is_empty(const SegdClosing *closing)
 {
     return closing->scans == 0 && closing->off == 0 && closing->samples == 0 && closing->last_type == 0 && closing->itb_known == 0 &&
            closing->itb == 0 && closing->window_known == 0 && closing->window == 0;
 }
 
-SegdClosing put_close(SegdState state)
+SegdClosing put_close(const struct reading *reading)
 {
+    if (reading->kind == SEGD_TRACES)
+        return put_trace_close(reading);
+    SegdState state = reading->state;
     SegdClosing closing = segd_close(state);
     uint32_t number = closing.refusal.number;
 

@@ -19,7 +19,14 @@ enum fault {
     MISPLACES,
     READS_AFTER_BLOCK,
     READS_AFTER_SHEET,
-    TAKES_TRACES_FOR_SCANS
+    TAKES_TRACES_FOR_SCANS,
+    /* on a body of traces */
+    TRACES_READ_AFTER_BLOCK,
+    TRACES_CHANGE_SAMPLE,
+    TRACES_CHANGE_REFUSED,
+    TRACES_FORGET_STOP,
+    TRACES_FORGET_END,
+    TRACES_MISPLACE
 };
 
 SegdOpened __real_segd_open(const uint8_t *block, size_t length);
@@ -32,6 +39,15 @@ SegdPlace __real_segd_sample_place(const uint8_t *block, size_t length, uint32_t
 SegdPlace __wrap_segd_sample_place(const uint8_t *block, size_t length, uint32_t scan_type, uint32_t k);
 SegdByte __real_segd_skew_at(const uint8_t *block, size_t length, const uint8_t *sheet, size_t sheet_length, uint32_t scan_type, uint32_t k);
 SegdByte __wrap_segd_skew_at(const uint8_t *block, size_t length, const uint8_t *sheet, size_t sheet_length, uint32_t scan_type, uint32_t k);
+
+SegdTraceGave __real_segd_trace_portion(const uint8_t *block, size_t block_length, SegdTraces state, const uint8_t *bytes, size_t length,
+                                        int32_t *out, size_t room);
+SegdTraceGave __wrap_segd_trace_portion(const uint8_t *block, size_t block_length, SegdTraces state, const uint8_t *bytes, size_t length,
+                                        int32_t *out, size_t room);
+SegdTraceGave __real_segd_trace_end(const uint8_t *block, size_t block_length, SegdTraces state);
+SegdTraceGave __wrap_segd_trace_end(const uint8_t *block, size_t block_length, SegdTraces state);
+SegdTracePlace __real_segd_trace_place(const uint8_t *block, size_t block_length, uint32_t trace, uint32_t sample);
+SegdTracePlace __wrap_segd_trace_place(const uint8_t *block, size_t block_length, uint32_t trace, uint32_t sample);
 
 static enum fault fault(void)
 {
@@ -98,4 +114,34 @@ SegdByte __wrap_segd_skew_at(const uint8_t *block, size_t length, const uint8_t 
     if (fault() == READS_AFTER_SHEET)
         seen = sheet[sheet_length];
     return __real_segd_skew_at(block, length, sheet, sheet_length, scan_type, k);
+}
+
+SegdTraceGave __wrap_segd_trace_portion(const uint8_t *block, size_t block_length, SegdTraces state, const uint8_t *bytes, size_t length,
+                                        int32_t *out, size_t room)
+{
+    if (fault() == TRACES_READ_AFTER_BLOCK)
+        seen = block[block_length];
+    SegdTraceGave gave = __real_segd_trace_portion(block, block_length, state, bytes, length, out, room);
+    if (fault() == TRACES_CHANGE_SAMPLE && length == 3 && gave.samples > 0)
+        out[0]++;
+    if (fault() == TRACES_CHANGE_REFUSED)
+        gave.state.off += gave.outcome == SEGD_REFUSED;
+    if (fault() == TRACES_FORGET_STOP)
+        gave.state.stop = 0;
+    return gave;
+}
+
+SegdTraceGave __wrap_segd_trace_end(const uint8_t *block, size_t block_length, SegdTraces state)
+{
+    SegdTraceGave gave = __real_segd_trace_end(block, block_length, state);
+    if (fault() == TRACES_FORGET_END)
+        gave.state.ends = state.ends;
+    return gave;
+}
+
+SegdTracePlace __wrap_segd_trace_place(const uint8_t *block, size_t block_length, uint32_t trace, uint32_t sample)
+{
+    SegdTracePlace place = __real_segd_trace_place(block, block_length, trace, sample);
+    place.subscan += fault() == TRACES_MISPLACE && place.subscan > 0;
+    return place;
 }

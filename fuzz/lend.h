@@ -9,7 +9,7 @@
 #define MOST_BYTES (1u << 18)
 #define MOST_NUMBERS (2 * MOST_BYTES + 8)
 
-enum lent { LENT_BLOCK, LENT_SHEET, LENT_BYTES, LENT_OUT, LENT_KINDS };
+enum lent { LENT_BLOCK, LENT_OTHER, LENT_SHEET, LENT_BYTES, LENT_OUT, LENT_KINDS };
 
 /* Which side of what is lent from now on the forbidden page is: 0 after it, else before it. */
 void lend_beside(int before);

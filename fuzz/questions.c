@@ -1,6 +1,6 @@
 #include "questions.h"
 
-#include "../include/segd.h"
+#include "body.h"
 #include "demand.h"
 
 /* T has three bytes. */
@@ -8,7 +8,7 @@
 
 static int same_told(SegdTold a, SegdTold b)
 {
-    return a.number == b.number && a.first == b.first && a.second == b.second;
+    return a.number == b.number && a.first == b.first && a.second == b.second && a.third == b.third;
 }
 
 /* An answer that is refused or not: by the header's own refusal, else as no such thing unless it is there. Gives whether it was answered. */
@@ -17,7 +17,7 @@ static int answered(const SegdHeader *header, SegdTold refusal, int there)
     if (header->refusal.number != 0)
         DEMAND(same_told(refusal, header->refusal));
     else
-        DEMAND(refusal.number == (there ? 0 : SEGD_INDEX) && refusal.first == 0 && refusal.second == 0);
+        DEMAND(refusal.number == (there ? 0 : SEGD_INDEX) && refusal.first == 0 && refusal.second == 0 && refusal.third == 0);
     return refusal.number == 0;
 }
 
@@ -67,6 +67,26 @@ static void ask_index(const struct lent_block *lent, const SegdHeader *header, c
     }
     SegdPlace place = segd_sample_place(lent->block, lent->length, n->scan_type, index.k);
     DEMAND(place.refusal.number == 0 && place.set == n->set && place.channel == n->channel && place.subscan == n->subscan);
+}
+
+/* A sample of a trace stands in its set, and leads back to its number. The trace's is k, the sample's t. */
+static void ask_trace_place(const struct lent_block *lent, const SegdHeader *header, const struct numbers *n)
+{
+    SegdTracePlace place = segd_trace_place(lent->block, lent->length, n->k, n->t);
+    came_up(CALL_TRACE_PLACE, place.refusal.number, header->header.code);
+    if (!answered(header, place.refusal, header->refusal.number == 0 && n->k < traces_of(lent->block, &header->header))) {
+        DEMAND(place.scan_type == 0 && place.set == 0 && place.channel == 0 && place.scan == 0 && place.subscan == 0);
+        return;
+    }
+    SegdChannelSet set = segd_descriptor(lent->block, lent->length, place.scan_type, place.set);
+    DEMAND(set.refusal.number == 0 && place.channel >= 1 && place.channel <= set.set.channels);
+    DEMAND(place.subscan < 1u << set.set.subscan_exponent);
+    DEMAND(place.scan << set.set.subscan_exponent == n->t - place.subscan && place.scan == n->t >> set.set.subscan_exponent);
+    SegdTracePlace next = segd_trace_place(lent->block, lent->length, n->k + 1, n->t);
+    if (place.channel < set.set.channels)
+        DEMAND(next.scan_type == place.scan_type && next.set == place.set && next.channel == place.channel + 1);
+    else
+        DEMAND(next.refusal.number == SEGD_INDEX || next.channel == 1);
 }
 
 /* The constants stand in bytes 5 to 10; the extended header ends where the external begins, and that ends with the block. */
@@ -135,6 +155,7 @@ void ask_all(const struct lent_block *lent, const struct numbers *numbers)
     ask_set(lent, &header, numbers);
     ask_place(lent, &header, numbers);
     ask_index(lent, &header, numbers);
+    ask_trace_place(lent, &header, numbers);
     ask_parts(lent, &header);
     ask_time(lent, &header, numbers);
 }

@@ -5,6 +5,15 @@
 pub struct Stop {
     pub number: u32,
     pub place: u32,
+    /// the scan type and set of FOUR; else 0
+    pub set: (u32, u32),
+}
+
+impl Stop {
+    /// A stop whose row names no more than the place.
+    pub fn at(number: u32, place: u32) -> Stop {
+        Stop { number, place, set: (0, 0) }
+    }
 }
 
 /// The answer to a portion or to a block end.
@@ -22,7 +31,8 @@ pub struct Report {
     pub samples: u64,
     pub off: u32,
     pub last_type: u32,
-    pub itb: bool,
+    /// ITB of the first scan; traces have none
+    pub itb: Option<bool>,
     /// T of the first scan with TWI set
     pub window: Option<u32>,
 }

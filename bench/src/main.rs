@@ -7,9 +7,11 @@ mod ours;
 mod reader;
 mod record;
 mod runs;
+mod samples;
+mod traces;
 mod words;
 
-use record::{tape_code, Plan, Record, CODES, NARROW, WIDE};
+use record::{Plan, Record, CODES, NARROW, TRACE_CODES, WIDE};
 use std::io::BufRead;
 
 const PORTIONS: [usize; 3] = [512, 65_536, 1 << 20];
@@ -21,14 +23,19 @@ const BLOCK: u32 = 1 << 18;
 const LONG_BODY: u32 = 4 << 20;
 const SHORT_BODY: u32 = 80_000;
 
-/// All codes, scans of both sizes, in blocks of about so many bytes and in one block.
+/// All codes, scans of both sizes, in blocks of about so many bytes and in one block, and then traces.
 fn plans(bytes: u32, block_bytes: u32) -> Vec<Plan> {
     let mut plans = Vec::new();
     for code in CODES {
         for sets in [NARROW, WIDE] {
             for block_bytes in [block_bytes, 0] {
-                plans.push(Plan { code, sets, block_bytes, bytes });
+                plans.push(Plan { code, sets, traces: false, block_bytes, bytes });
             }
+        }
+    }
+    for code in TRACE_CODES {
+        for sets in [NARROW, WIDE] {
+            plans.push(Plan { code, sets, traces: true, block_bytes: 0, bytes });
         }
     }
     plans
@@ -48,9 +55,13 @@ fn table(unit: &str, mut figures: impl FnMut(&Record, usize) -> [f64; 2]) -> Vec
     let mut rows = Vec::new();
     for plan in plans(LONG_BODY, BLOCK) {
         let record = plan.record(1);
-        let form = if plan.block_bytes == 0 { "one block" } else { "gapped" };
+        let form = match plan.block_bytes {
+            _ if plan.traces => format!("{} traces", record.ends.len()),
+            0 => "one block".to_string(),
+            _ => "gapped".to_string(),
+        };
         let figures: Vec<_> = PORTIONS.iter().map(|portion| figures(&record, *portion)).collect();
-        print!("| {:04X} | {} | {form} |", tape_code(plan.code), plan.scan());
+        print!("| {:04X} | {} | {form} |", plan.tape_code(), plan.scan());
         for [ours, theirs] in &figures {
             print!(" {ours:.2} | {theirs:.2} | {:.2} |", ours / theirs);
         }
@@ -73,11 +84,12 @@ fn taken_apart(rows: &[Row]) {
     println!("\ninstructions of a sample and of the rest of a scan");
     println!("| code | a sample: ours | Rust | the rest of a scan: ours | Rust |");
     println!("|---|---|---|---|---|");
-    let whole: Vec<_> = rows.iter().filter(|row| row.plan.block_bytes == 0).collect();
+    let of_scans = rows.iter().filter(|row| !row.plan.traces);
+    let whole: Vec<_> = of_scans.filter(|row| row.plan.block_bytes == 0).collect();
     for pair in whole.chunks(2) {
         let (ours, our_rest) = apart(pair[0], pair[1], 0);
         let (theirs, their_rest) = apart(pair[0], pair[1], 1);
-        let code = tape_code(pair[0].plan.code);
+        let code = pair[0].plan.tape_code();
         println!("| {code:04X} | {ours:.1} | {theirs:.1} | {our_rest:.0} | {their_rest:.0} |");
     }
 }

@@ -1,9 +1,10 @@
 //! Both readers over the same record, in the same portions.
 
 use crate::answers::Reading;
-use crate::ours::Ours;
+use crate::ours::{OurTraces, Ours};
 use crate::reader::Reader;
-use crate::record::Record;
+use crate::record::{Kind, Record};
+use crate::traces::TraceReader;
 
 /// How often each reader reads the record, in turn with the other. The best counts: whatever else the machine does only
 /// ever adds to it.
@@ -67,8 +68,22 @@ fn nanoseconds_per_byte<R: Reading>(
 
 /// Nanoseconds for a byte of both readers, ours first.
 pub fn time(record: &Record, portion: usize) -> [f64; 2] {
-    let ours = Ours::open(&record.header);
-    let theirs = Reader::new(record.shape);
+    match &record.kind {
+        Kind::Scans(shape) => {
+            time_both(Ours::open(&record.header), Reader::new(*shape), record, portion)
+        }
+        Kind::Traces(shape) => {
+            time_both(OurTraces::open(&record.header), TraceReader::new(shape), record, portion)
+        }
+    }
+}
+
+fn time_both(
+    ours: impl Reading,
+    theirs: impl Reading,
+    record: &Record,
+    portion: usize,
+) -> [f64; 2] {
     let mut out = output(portion);
     let mut best = [f64::INFINITY; 2];
     for _ in 0..ROUNDS {
@@ -87,6 +102,14 @@ fn counted_once(fresh: impl Reading, record: &Record, portion: usize, out: &mut 
 /// Reads the record once by each, ours first.
 pub fn once(record: &Record, portion: usize) {
     let mut out = output(portion);
-    counted_once(Ours::open(&record.header), record, portion, &mut out);
-    counted_once(Reader::new(record.shape), record, portion, &mut out);
+    match &record.kind {
+        Kind::Scans(shape) => {
+            counted_once(Ours::open(&record.header), record, portion, &mut out);
+            counted_once(Reader::new(*shape), record, portion, &mut out);
+        }
+        Kind::Traces(shape) => {
+            counted_once(OurTraces::open(&record.header), record, portion, &mut out);
+            counted_once(TraceReader::new(shape), record, portion, &mut out);
+        }
+    }
 }

@@ -8,6 +8,18 @@ struct Told {
     number: u32,
     first: u32,
     second: u32,
+    third: u32,
+}
+
+impl Told {
+    /// A stop: of FOUR, row 8, the place is the third value.
+    fn stop(&self) -> Stop {
+        let Told { number, first, second, third } = *self;
+        match number {
+            8 => Stop { number, place: third, set: (first, second) },
+            _ => Stop::at(number, first),
+        }
+    }
 }
 
 #[repr(C)]
@@ -49,11 +61,30 @@ struct SegdOpened {
     refusal: Told,
     kind: u8,
     state: State,
+    traces: Traces,
+}
+
+/// The state of a body of traces.
+#[repr(C)]
+#[derive(Clone, Copy)]
+struct Traces {
+    code: u16,
+    place: u32,
+    ends: u32,
+    at: u32,
+    samples: u32,
+    off: u32,
+    present: u32,
+    scans: u32,
+    held: u32,
+    exponents: u32,
+    stop: u32,
+    stopat: u32,
 }
 
 #[repr(C)]
-struct SegdGave {
-    state: State,
+struct SegdGave<S> {
+    state: S,
     outcome: u32,
     refusal: Told,
     samples: u64,
@@ -80,38 +111,113 @@ extern "C" {
         length: usize,
         out: *mut i32,
         room: usize,
-    ) -> SegdGave;
-    fn segd_block_end(state: State) -> SegdGave;
+    ) -> SegdGave<State>;
+    fn segd_block_end(state: State) -> SegdGave<State>;
     fn segd_close(state: State) -> SegdClosing;
+    fn segd_trace_portion(
+        block: *const u8,
+        block_length: usize,
+        state: Traces,
+        bytes: *const u8,
+        length: usize,
+        out: *mut i32,
+        room: usize,
+    ) -> SegdGave<Traces>;
+    fn segd_trace_end(block: *const u8, block_length: usize, state: Traces) -> SegdGave<Traces>;
+    fn segd_trace_close(block: *const u8, block_length: usize, state: Traces) -> SegdClosing;
 }
 
-/// The kind of a multiplexed record's body.
+/// The kinds of a body: that of a multiplexed record, and that of a demultiplexed one.
 const SCANS: u8 = 1;
+const TRACES: u8 = 2;
 
 /// The outcome of a body that stops. One that goes on has 0.
 const STOPPED: u32 = 1;
 
-/// A body that the library reads.
+impl<S> SegdGave<S> {
+    fn gave(&self) -> Gave {
+        let stopped = self.outcome == STOPPED;
+        Gave {
+            samples: self.samples as usize,
+            stop: stopped.then(|| self.refusal.stop()),
+            refused: if stopped { 0 } else { self.refusal.number },
+        }
+    }
+}
+
+impl SegdClosing {
+    fn closing(self) -> Closing {
+        if self.refusal.number != 0 {
+            return Err((self.refusal.number, self.refusal.stop().place));
+        }
+        Ok(Report {
+            scans: self.scans,
+            samples: self.samples,
+            off: self.off,
+            last_type: self.last_type,
+            itb: (self.itb_known == 1).then_some(self.itb == 1),
+            window: (self.window_known == 1).then_some(self.window),
+        })
+    }
+}
+
+fn open(header: &[u8], kind: u8) -> SegdOpened {
+    let opened = unsafe { segd_open(header.as_ptr(), header.len()) };
+    assert_eq!(opened.refusal.number, 0, "the header is accepted");
+    assert_eq!(opened.kind, kind, "its body is of the kind that is read");
+    opened
+}
+
+/// A body of scans that the library reads.
 #[derive(Clone, Copy)]
 pub struct Ours(State);
 
 impl Ours {
     pub fn open(header: &[u8]) -> Ours {
-        let opened = unsafe { segd_open(header.as_ptr(), header.len()) };
-        assert_eq!(opened.refusal.number, 0, "the header is accepted");
-        assert_eq!(opened.kind, SCANS, "its body is one of scans");
-        Ours(opened.state)
+        Ours(open(header, SCANS).state)
     }
 
-    fn take(&mut self, gave: SegdGave) -> Gave {
+    fn take(&mut self, gave: SegdGave<State>) -> Gave {
         self.0 = gave.state;
-        let stopped = gave.outcome == STOPPED;
-        let stop = Stop { number: gave.refusal.number, place: gave.refusal.first };
-        Gave {
-            samples: gave.samples as usize,
-            stop: stopped.then_some(stop),
-            refused: if stopped { 0 } else { gave.refusal.number },
-        }
+        gave.gave()
+    }
+}
+
+/// A body of traces that the library reads, with the header block that its calls are lent.
+#[derive(Clone, Copy)]
+pub struct OurTraces<'a> {
+    block: &'a [u8],
+    state: Traces,
+}
+
+impl OurTraces<'_> {
+    pub fn open(block: &[u8]) -> OurTraces<'_> {
+        OurTraces { block, state: open(block, TRACES).traces }
+    }
+
+    fn take(&mut self, gave: SegdGave<Traces>) -> Gave {
+        self.state = gave.state;
+        gave.gave()
+    }
+}
+
+impl Reading for OurTraces<'_> {
+    fn portion(&mut self, bytes: &[u8], out: &mut [i32]) -> Gave {
+        let (block, length) = (self.block.as_ptr(), self.block.len());
+        let (from, count) = (bytes.as_ptr(), bytes.len());
+        let gave = unsafe {
+            segd_trace_portion(block, length, self.state, from, count, out.as_mut_ptr(), out.len())
+        };
+        self.take(gave)
+    }
+
+    fn block_end(&mut self) -> Gave {
+        let gave = unsafe { segd_trace_end(self.block.as_ptr(), self.block.len(), self.state) };
+        self.take(gave)
+    }
+
+    fn close(&self) -> Closing {
+        unsafe { segd_trace_close(self.block.as_ptr(), self.block.len(), self.state) }.closing()
     }
 }
 
@@ -129,17 +235,6 @@ impl Reading for Ours {
     }
 
     fn close(&self) -> Closing {
-        let closing = unsafe { segd_close(self.0) };
-        if closing.refusal.number != 0 {
-            return Err((closing.refusal.number, closing.refusal.first));
-        }
-        Ok(Report {
-            scans: closing.scans,
-            samples: closing.samples,
-            off: closing.off,
-            last_type: closing.last_type,
-            itb: closing.itb == 1,
-            window: (closing.window_known == 1).then_some(closing.window),
-        })
+        unsafe { segd_close(self.0) }.closing()
     }
 }

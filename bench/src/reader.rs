@@ -4,55 +4,23 @@
 //! place, words cut by a portion's end, and the report.
 
 use crate::answers::{Closing, Gave, Reading, Report, Stop};
-use crate::runs;
-use crate::words;
-use crate::words::Word;
+use crate::samples::{Code, Output, Samples};
 
-const ROOM: u32 = 13;
-const LONG: u32 = 14;
-const BLOCK: u32 = 15;
+pub const ROOM: u32 = 13;
+pub const LONG: u32 = 14;
+pub const BLOCK: u32 = 15;
 const SYNC: u32 = 16;
 const TIMING: u32 = 17;
 const PHASE: u32 = 18;
-const PART: u32 = 19;
-const OPEN: u32 = 20;
-const MISSING: u32 = 21;
+pub const PART: u32 = 19;
+pub const OPEN: u32 = 20;
+pub const MISSING: u32 = 21;
 
 /// The place that no byte may have.
-const TOO_FAR: u32 = u32::MAX;
+pub const TOO_FAR: u32 = u32::MAX;
 
 /// Bytes of a scan before its samples.
 const START: u32 = 8;
-
-#[derive(Clone, Copy, Debug, PartialEq, Eq)]
-pub enum Code {
-    C0015,
-    C0022,
-    C0024,
-    C0042,
-    C0044,
-    C0048,
-}
-
-impl Code {
-    /// Bytes of a group of samples on tape: one sample, or four in 0015.
-    pub fn group(self) -> usize {
-        match self {
-            Code::C0022 | Code::C0042 => 1,
-            Code::C0024 | Code::C0044 => 2,
-            Code::C0048 => 4,
-            Code::C0015 => 10,
-        }
-    }
-
-    fn samples_of_group(self) -> u32 {
-        if self == Code::C0015 {
-            4
-        } else {
-            1
-        }
-    }
-}
 
 /// What the header says of a body.
 #[derive(Clone, Copy, Debug)]
@@ -81,30 +49,16 @@ pub struct Reader {
     in_block: u32,
     /// block ends so far
     ends: u32,
-    off: u32,
     /// scan types so far
     seen: u32,
     itb: bool,
     window: Option<u32>,
     /// the next scan's T in the top three bytes, as bytes 5 to 8 of a scan hold it
     due: u32,
-    /// the bytes so far of a scan's start, or of a group of samples, that a portion's end cut
-    cut: [u8; 10],
-    cut_length: usize,
+    /// the bytes so far of a scan's start that a portion's end cut
+    cut: [u8; START as usize],
+    words: Samples,
     stop: Option<Stop>,
-}
-
-/// The output of a portion, and how much of it is filled.
-struct Output<'a> {
-    numbers: &'a mut [i32],
-    filled: usize,
-}
-
-impl Output<'_> {
-    fn put(&mut self, m: i32, x: i32) {
-        self.numbers[self.filled..self.filled + 2].copy_from_slice(&[m, x]);
-        self.filled += 2;
-    }
 }
 
 impl Reader {
@@ -116,13 +70,12 @@ impl Reader {
             scans: 0,
             in_block: 0,
             ends: 0,
-            off: 0,
             seen: 0,
             itb: false,
             window: None,
             due: 0,
-            cut: [0; 10],
-            cut_length: 0,
+            cut: [0; START as usize],
+            words: Samples::new(shape.code),
             stop: None,
         }
     }
@@ -191,7 +144,7 @@ impl Reader {
     }
 
     fn last_start_byte(&mut self) -> Result<(), u32> {
-        let [_, _, _, flags, t1, t2, t3, zero, ..] = self.cut;
+        let [_, _, _, flags, t1, t2, t3, zero] = self.cut;
         let timing = u32::from_be_bytes([t1, t2, t3, zero]);
         if !self.in_step(timing) {
             return Err(TIMING);
@@ -242,62 +195,12 @@ impl Reader {
         }
     }
 
-    /// Samples of the present scan: what completes a group that was cut, whole groups, and what begins one.
+    /// Samples of the present scan.
     fn samples(&mut self, bytes: &[u8], out: &mut Output) -> usize {
         let here = bytes.len().min((self.shape.scan - self.at) as usize);
-        let group = self.shape.code.group();
-        let lead = if self.cut_length == 0 { 0 } else { here.min(group - self.cut_length) };
-        let (lead, rest) = bytes[..here].split_at(lead);
-        self.cut_bytes(lead, out);
-        let (whole, tail) = rest.split_at(rest.len() - rest.len() % group);
-        self.groups(whole, out);
-        self.cut_bytes(tail, out);
+        self.words.take(&bytes[..here], out);
         self.advance(here as u32);
         here
-    }
-
-    fn groups(&mut self, bytes: &[u8], out: &mut Output) {
-        let code = self.shape.code;
-        let numbers = bytes.len() / code.group() * 2 * code.samples_of_group() as usize;
-        let room = &mut out.numbers[out.filled..out.filled + numbers];
-        self.off += match code {
-            Code::C0015 => runs::run_0015(bytes, room),
-            Code::C0022 => runs::run_0022(bytes, room),
-            Code::C0024 => runs::run_0024(bytes, room),
-            Code::C0042 => runs::run_0042(bytes, room),
-            Code::C0044 => runs::run_0044(bytes, room),
-            Code::C0048 => runs::run_0048(bytes, room),
-        };
-        out.filled += numbers;
-    }
-
-    /// Bytes of a group that a portion's end cuts.
-    fn cut_bytes(&mut self, bytes: &[u8], out: &mut Output) {
-        for byte in bytes {
-            self.cut[self.cut_length] = *byte;
-            self.cut_length += 1;
-            if let Some((m, x, wrong)) = self.cut_word() {
-                out.put(m, x);
-                self.off += u32::from(wrong);
-            }
-            if self.cut_length == self.shape.code.group() {
-                self.cut_length = 0;
-            }
-        }
-    }
-
-    /// The word that the last byte of a cut group completed. A one-byte word is never cut.
-    fn cut_word(&self) -> Option<Word> {
-        let pair = |i: usize| u32::from(u16::from_be_bytes([self.cut[i], self.cut[i + 1]]));
-        match (self.shape.code, self.cut_length) {
-            (Code::C0024, 2) => Some(words::word_0024(pair(0))),
-            (Code::C0044, 2) => Some(words::word_0044(pair(0))),
-            (Code::C0048, 4) => Some(words::word_0048(pair(0) << 16 | pair(2))),
-            (Code::C0015, n @ (4 | 6 | 8 | 10)) => {
-                Some(words::word_0015(pair(0) >> (20 - 2 * n) & 0xF, pair(n - 2)))
-            }
-            _ => None,
-        }
     }
 
     fn report(&self) -> Report {
@@ -306,9 +209,9 @@ impl Reader {
         Report {
             scans: self.scans,
             samples: u64::from(self.scans) * u64::from(per_scan),
-            off: self.off,
+            off: self.words.off,
             last_type: self.seen,
-            itb: self.itb,
+            itb: Some(self.itb),
             window: self.window,
         }
     }
@@ -330,7 +233,7 @@ impl Reading for Reader {
             Ok(()) => return Gave { samples: out.filled / 2, stop: None, refused: 0 },
             Err(number) => number,
         };
-        self.stop = Some(Stop { number, place: self.place });
+        self.stop = Some(Stop::at(number, self.place));
         Gave { samples: out.filled / 2, stop: self.stop, refused: 0 }
     }
 
@@ -344,7 +247,7 @@ impl Reading for Reader {
                 self.ends += 1;
                 self.in_block = 0;
             } else {
-                self.stop = Some(Stop { number: BLOCK, place: self.place });
+                self.stop = Some(Stop::at(BLOCK, self.place));
             }
         }
         Gave { samples: 0, stop: self.stop, refused: 0 }

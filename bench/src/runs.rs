@@ -41,14 +41,23 @@ pub fn run_0048(bytes: &[u8], out: &mut [i32]) -> u32 {
     words(bytes, out, |w| word_0048(u32::from_be_bytes(w)))
 }
 
-/// Groups of ten bytes: four exponents, then four words.
 pub fn run_0015(bytes: &[u8], out: &mut [i32]) -> u32 {
+    groups(bytes, out, word_0015)
+}
+
+pub fn run_8015(bytes: &[u8], out: &mut [i32]) -> u32 {
+    groups(bytes, out, word_8015)
+}
+
+/// Groups of ten bytes: four exponents, then four words.
+#[inline(always)]
+fn groups(bytes: &[u8], out: &mut [i32], word: impl Fn(u32, u32) -> Word) -> u32 {
     let mut off = 0;
     for (group, samples) in bytes.as_chunks::<10>().0.iter().zip(out.as_chunks_mut::<8>().0) {
         let pair = |i: usize| u32::from(u16::from_be_bytes([group[i], group[i + 1]]));
         let exponents = pair(0);
         for k in 0..4 {
-            let (m, x, wrong) = word_0015(exponents >> (12 - 4 * k) & 0xF, pair(2 + 2 * k));
+            let (m, x, wrong) = word(exponents >> (12 - 4 * k) & 0xF, pair(2 + 2 * k));
             samples[2 * k] = m;
             samples[2 * k + 1] = x;
             off += u32::from(wrong);

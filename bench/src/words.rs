@@ -56,6 +56,12 @@ pub const fn word_0015(c: u32, w: u32) -> Word {
     (complemented(w >> 15 == 1, q, 0x3FFF), c as i32 - 14, off)
 }
 
+/// The same of 8015, which has a bit of fraction more and none that is not used.
+pub const fn word_8015(c: u32, w: u32) -> Word {
+    let q = (w & 0x7FFF) as i32;
+    (complemented(w >> 15 == 1, q, 0x7FFF), c as i32 - 15, w == 0xFFFF)
+}
+
 /// M and X of each one-byte word, as they go to the output.
 pub type Table = [[i32; 2]; 256];
 

@@ -11,6 +11,7 @@ pub mod parts;
 pub mod places;
 pub mod program;
 pub mod skew;
+pub mod traces;
 pub mod words;
 
 use crate::reader::Refusal;
@@ -64,7 +65,7 @@ impl Effort {
 const SHOWN: usize = 3;
 
 /// Rows of what is turned away, and 0 for what is not.
-const ROWS: usize = 24;
+const ROWS: usize = 26;
 
 /// Answers that are compared and counted together.
 #[derive(Debug)]
@@ -232,4 +233,5 @@ pub fn library(results: &mut Results, effort: Effort) {
     parts::compare(results, effort);
     skew::compare(results, effort);
     body::compare(results, effort);
+    traces::compare(results, effort);
 }

@@ -10,6 +10,7 @@ pub mod lister;
 pub mod parts;
 pub mod places;
 pub mod skew;
+pub mod traces;
 pub mod words;
 
 use crate::reader::{refusal_with, Refusal};
@@ -21,13 +22,16 @@ pub struct Told {
     pub number: u32,
     pub first: u32,
     pub second: u32,
+    /// the place of 8 where it is a stop; no stop of that row is at place 0
+    pub third: u32,
 }
 
-/// How many values the row of a refusal names.
-fn values_of_row(number: u32) -> usize {
-    match number {
+/// How many values a refusal has by its row.
+fn values_of_row(told: Told) -> usize {
+    match told.number {
+        8 if told.third != 0 => 3,
         7 | 8 => 2,
-        9 | 14..=18 => 1,
+        9 | 14..=18 | 24 | 25 => 1,
         _ => 0,
     }
 }
@@ -35,13 +39,13 @@ fn values_of_row(number: u32) -> usize {
 /// An answer that the boundary's own rules leave no room for. No row has the
 /// number 0, so whatever the reader says it shows as a difference.
 fn unheard_of(told: Told) -> Refusal {
-    refusal_with(0, &[told.number, told.first, told.second])
+    refusal_with(0, &[told.number, told.first, told.second, told.third])
 }
 
 /// The row and its values; the others have to be 0.
 fn row(told: Told) -> Refusal {
-    let values = [told.first, told.second];
-    let (named, rest) = values.split_at(values_of_row(told.number));
+    let values = [told.first, told.second, told.third];
+    let (named, rest) = values.split_at(values_of_row(told));
     match u8::try_from(told.number) {
         Ok(number) if rest.iter().all(|value| *value == 0) => refusal_with(number, named),
         _ => unheard_of(told),

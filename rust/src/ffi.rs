@@ -57,6 +57,16 @@ pub struct Sits {
 }
 
 #[repr(C)]
+pub struct TraceSits {
+    pub refusal: Told,
+    pub scan_type: u32,
+    pub set: u32,
+    pub channel: u32,
+    pub scan: u32,
+    pub subscan: u32,
+}
+
+#[repr(C)]
 pub struct Part {
     pub refusal: Told,
     pub offset: u64,
@@ -118,16 +128,36 @@ pub struct State {
     stopat: u32,
 }
 
+/// The same of a body of traces.
+#[repr(C)]
+#[derive(Clone, Copy, Debug)]
+pub struct Traces {
+    code: u16,
+    place: u32,
+    ends: u32,
+    at: u32,
+    samples: u32,
+    off: u32,
+    present: u32,
+    scans: u32,
+    held: u32,
+    exponents: u32,
+    stop: u32,
+    stopat: u32,
+}
+
 #[repr(C)]
 pub struct Opened {
     pub refusal: Told,
     pub kind: u8,
     pub state: State,
+    pub traces: Traces,
 }
 
+/// What a portion or a block end gave, with the state of its kind of body.
 #[repr(C)]
-pub struct Gave {
-    pub state: State,
+pub struct Gave<S> {
+    pub state: S,
     pub outcome: u32,
     pub refusal: Told,
     pub samples: u64,
@@ -175,11 +205,20 @@ reading! {
     skew_at = segd_skew_at([block, sheet] scan_type: u32, k: u32) -> SkewByte;
     sample_time = segd_sample_time([block, sheet] scan_type: u32, k: u32, t: u32) -> Time;
     open = segd_open([block]) -> Opened;
-    block_end = segd_block_end([] state: State) -> Gave;
+    block_end = segd_block_end([] state: State) -> Gave<State>;
     close = segd_close([] state: State) -> Closing;
+    trace_end = segd_trace_end([block] state: Traces) -> Gave<Traces>;
+    trace_close = segd_trace_close([block] state: Traces) -> Closing;
+    trace_place = segd_trace_place([block] trace: u32, sample: u32) -> TraceSits;
 }
 
-pub fn portion(state: State, bytes: &[u8], out: &mut [Sample]) -> Gave {
+/// Output in C's terms: the numbers, and how many there are.
+fn room_of(out: &mut [Sample]) -> (*mut i32, usize) {
+    // No slice has more than isize::MAX bytes, so twice its length in samples does not overflow.
+    (out.as_mut_ptr().cast::<i32>(), 2 * out.len())
+}
+
+pub fn portion(state: State, bytes: &[u8], out: &mut [Sample]) -> Gave<State> {
     extern "C" {
         fn segd_portion(
             state: State,
@@ -187,11 +226,33 @@ pub fn portion(state: State, bytes: &[u8], out: &mut [Sample]) -> Gave {
             length: usize,
             out: *mut i32,
             room: usize,
-        ) -> Gave;
+        ) -> Gave<State>;
     }
-    // No slice has more than isize::MAX bytes, so twice its length in samples does not overflow.
-    let (numbers, room) = (out.as_mut_ptr().cast::<i32>(), 2 * out.len());
+    let (numbers, room) = room_of(out);
     // SAFETY: `bytes` as above. `out` is borrowed for this call alone; a `Sample` is two `i32` side by side
     // (`repr(C)`), so it is `room` of them, and the call writes nowhere else.
     unsafe { segd_portion(state, bytes.as_ptr(), bytes.len(), numbers, room) }
+}
+
+pub fn trace_portion(
+    block: &[u8],
+    state: Traces,
+    bytes: &[u8],
+    out: &mut [Sample],
+) -> Gave<Traces> {
+    extern "C" {
+        fn segd_trace_portion(
+            block: *const u8,
+            block_length: usize,
+            state: Traces,
+            bytes: *const u8,
+            length: usize,
+            out: *mut i32,
+            room: usize,
+        ) -> Gave<Traces>;
+    }
+    let (numbers, room) = room_of(out);
+    let (start, length) = (block.as_ptr(), block.len());
+    // SAFETY: `block` and `bytes` as above, `out` as for `portion`.
+    unsafe { segd_trace_portion(start, length, state, bytes.as_ptr(), bytes.len(), numbers, room) }
 }

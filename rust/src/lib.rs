@@ -18,7 +18,7 @@
 //! assert_eq!((header.file, header.code, header.samples_per_scan), (7, 0x0022, 4));
 //!
 //! let mut samples = [segd::Sample::default(); 24];
-//! let mut body = segd::open(&block)?.scans().expect("a multiplexed record");
+//! let mut body = segd::open(&block)?;
 //! let given = body.portion(bytes, &mut samples)?;
 //! assert_eq!((given.samples, given.stop), (8, None));
 //! assert_eq!(samples[1], segd::Sample { m: -8, x: -2 });
@@ -42,9 +42,9 @@ pub mod reel;
 mod refusal;
 mod words;
 
-pub use body::{open, Body, Given, Opened, Report};
+pub use body::{open, Body, Given, Opened, Report, Traces};
 pub use header::{descriptor, packed, read_header, ChannelSet, Header};
 pub use parts::{constants, extended, external, sample_time, skew, skew_at};
-pub use places::{sample_index, sample_place, Place};
+pub use places::{sample_index, sample_place, trace_place, Place, TracePlace};
 pub use refusal::Refusal;
 pub use words::{format, read_word, Format, Kind, Sample, Word};

@@ -72,14 +72,13 @@ pub struct Reading {
 impl Record<'_> {
     /// Reads the record.
     ///
-    /// Refuses [`Refusal::Large`] where the header item is above 65,536 bytes, then as [`crate::read_header`] does, then
-    /// [`Refusal::Demux`] where the body is one of traces.
+    /// Refuses [`Refusal::Large`] where the header item is above 65,536 bytes, then as [`crate::read_header`] does.
     pub fn read(&self) -> Result<Reading, Refusal> {
         if self.header.len() > LARGEST_HEADER {
             return Err(Refusal::Large);
         }
         let header = read_header(self.header)?;
-        let mut body = open(self.header)?.scans().ok_or(Refusal::Demux)?;
+        let mut body = open(self.header)?;
         let (mut samples, mut count) = (Vec::new(), 0);
         for block in &self.blocks {
             for portion in block.chunks(PORTION) {

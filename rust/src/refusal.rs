@@ -2,14 +2,14 @@
 
 use std::fmt;
 
-/// Why a call was refused: the 23 rows of the description's "What is turned away".
+/// Why a call was refused: the 25 rows of the description's "What is turned away", with those that bodies of traces added.
 #[derive(Clone, Copy, Debug, PartialEq, Eq, Hash)]
 pub enum Refusal {
     /// 1: the header block is under 32 bytes.
     Short,
     /// 2: no such format code.
     Format,
-    /// 3: a demultiplexed record, one of a code 80xx. No call of the library says so; [`crate::reel`] does, which does not read its body yet.
+    /// 3: a demultiplexed record, one of a code 80xx. Nothing here says so: they are read.
     Demux,
     /// 4: a digit of the general header is above 9.
     Digit,
@@ -24,12 +24,14 @@ pub enum Refusal {
         /// From 1.
         set: u8,
     },
-    /// 8: in 0015 the channels of this set do not divide by 4. Nothing is asked of those of 8015.
+    /// 8: in 0015 the channels of this set do not divide by 4; in 8015, where it stops a body, the samples of a trace of this set.
     Four {
         /// From 1.
         scan_type: u8,
         /// From 1.
         set: u8,
+        /// Bytes of the body before the stop; nothing of a header.
+        place: Option<u32>,
     },
     /// 9: the bytes per scan are not what this scan type has, the first such one; in the codes 80xx, its samples are not as many as those
     /// of scan type 1.
@@ -50,7 +52,7 @@ pub enum Refusal {
         /// Bytes of the body before the stop.
         place: u32,
     },
-    /// 15: a block ends where none may, or goes on where it must end.
+    /// 15: a block ends where none may, or goes on where it must end. Of traces: it ends in a trace header, or comes after the last trace.
     Block {
         /// Bytes of the body before the stop.
         place: u32,
@@ -70,20 +72,31 @@ pub enum Refusal {
         /// Bytes of the body before the stop.
         place: u32,
     },
-    /// 19: closed inside a scan.
+    /// 19: closed inside a scan; of traces, inside a trace header, a word, or in 8015 a group of four samples.
     Part,
     /// 20: closed with bytes after the last block end.
     Open,
-    /// 21: closed with fewer scan types seen than the header has.
+    /// 21: closed with fewer scan types seen than the header has; of traces, with fewer traces.
     Missing,
     /// 22: a reel's header item is above 65,536 bytes. No call of the library says so; [`crate::reel`] does.
     Large,
-    /// 23: an unfit state was handed in. Never here: a [`crate::Body`] holds a fit one.
+    /// 23: an unfit state was handed in. Never here: a [`crate::Body`] holds a fit one, and a [`crate::Traces`] one that is fit for its block.
     State,
+    /// 24: a byte of a trace header is not what it has to be.
+    Trace {
+        /// Bytes of the body before the stop.
+        place: u32,
+    },
+    /// 25: at the end of a trace, bytes are left over, or its samples are not whole scans, at least one, and as many as in the first trace
+    /// of its scan type.
+    Count {
+        /// Bytes of the body before the stop.
+        place: u32,
+    },
 }
 
 impl Refusal {
-    /// The refusal's number in the description's table, 1 to 23.
+    /// The refusal's number in the description's table, 1 to 25.
     pub fn number(self) -> u8 {
         self.row().0
     }
@@ -93,14 +106,17 @@ impl Refusal {
         self.row().1
     }
 
-    /// Where a body stopped, counting its bytes from 0: rows 14 to 18 alone have a place.
+    /// Where a body stopped, counting its bytes from 0: rows 14 to 18, 24, 25 and, of traces, 8 have a place.
     pub fn place(self) -> Option<u32> {
         match self {
             Refusal::Long { place }
             | Refusal::Block { place }
             | Refusal::Sync { place }
             | Refusal::Timing { place }
-            | Refusal::Phase { place } => Some(place),
+            | Refusal::Phase { place }
+            | Refusal::Trace { place }
+            | Refusal::Count { place } => Some(place),
+            Refusal::Four { place, .. } => place,
             _ => None,
         }
     }
@@ -130,6 +146,8 @@ impl Refusal {
             Refusal::Missing => (21, "MISSING"),
             Refusal::Large => (22, "LARGE"),
             Refusal::State => (23, "STATE"),
+            Refusal::Trace { .. } => (24, "TRACE"),
+            Refusal::Count { .. } => (25, "COUNT"),
         }
     }
 }
@@ -138,12 +156,13 @@ impl fmt::Display for Refusal {
     fn fmt(&self, f: &mut fmt::Formatter) -> fmt::Result {
         write!(f, "refused {} {}", self.number(), self.name())?;
         match *self {
-            Refusal::Descriptor { scan_type, set } | Refusal::Four { scan_type, set } => {
-                write!(f, " in scan type {scan_type}, set {set}")
+            Refusal::Descriptor { scan_type, set } | Refusal::Four { scan_type, set, .. } => {
+                write!(f, " in scan type {scan_type}, set {set}")?
             }
-            Refusal::Size { scan_type } => write!(f, " in scan type {scan_type}"),
-            _ => self.place().map_or(Ok(()), |place| write!(f, " at {place}")),
+            Refusal::Size { scan_type } => write!(f, " in scan type {scan_type}")?,
+            _ => {}
         }
+        self.place().map_or(Ok(()), |place| write!(f, " at {place}"))
     }
 }
 
@@ -156,6 +175,7 @@ pub(crate) struct Told {
     number: u32,
     first: u32,
     second: u32,
+    third: u32,
 }
 
 impl Told {
@@ -168,6 +188,8 @@ impl Told {
         // A header has at most 99 scan types and sets.
         let (scan_type, set) = (self.first as u8, self.second as u8);
         let place = self.first;
+        // Only FOUR has a third value, the place of a stop, and none stops before its trace header.
+        let four_at = (self.third != 0).then_some(self.third);
         Some(match self.number {
             0 => return None,
             1 => Refusal::Short,
@@ -177,7 +199,7 @@ impl Told {
             5 => Refusal::Range,
             6 => Refusal::Length,
             7 => Refusal::Descriptor { scan_type, set },
-            8 => Refusal::Four { scan_type, set },
+            8 => Refusal::Four { scan_type, set, place: four_at },
             9 => Refusal::Size { scan_type },
             10 => Refusal::Skew,
             11 => Refusal::Index,
@@ -193,6 +215,8 @@ impl Told {
             21 => Refusal::Missing,
             22 => Refusal::Large,
             23 => Refusal::State,
+            24 => Refusal::Trace { place },
+            25 => Refusal::Count { place },
             other => unreachable!("the library has no refusal {other}"),
         })
     }
@@ -202,17 +226,22 @@ impl Told {
 mod tests {
     use super::*;
 
+    fn told(number: u32, first: u32, second: u32, third: u32) -> Refusal {
+        Told { number, first, second, third }.refusal().expect("a row")
+    }
+
     #[test]
     fn every_row_is_told_by_its_number_and_values() {
-        for number in 1..=23 {
-            let refusal = Told { number, first: 3, second: 5 }.refusal().expect("a row");
+        for number in 1..=25 {
+            let refusal = told(number, 3, 5, 0);
             assert_eq!(u32::from(refusal.number()), number);
-            assert_eq!(refusal.place(), (14..=18).contains(&number).then_some(3));
+            assert_eq!(refusal.place(), matches!(number, 14..=18 | 24 | 25).then_some(3));
         }
-        let four = Told { number: 8, first: 3, second: 5 }.refusal().expect("a row");
-        assert_eq!(four.to_string(), "refused 8 FOUR in scan type 3, set 5");
-        let sync = Told { number: 16, first: 3, second: 0 }.refusal().expect("a row");
-        assert_eq!(sync.to_string(), "refused 16 SYNC at 3");
-        assert_eq!(Told { number: 0, first: 0, second: 0 }.or(1), Ok(1));
+        assert_eq!(told(8, 3, 5, 0).to_string(), "refused 8 FOUR in scan type 3, set 5");
+        assert_eq!(told(8, 3, 5, 44).to_string(), "refused 8 FOUR in scan type 3, set 5 at 44");
+        assert_eq!(told(8, 3, 5, 44).place(), Some(44));
+        assert_eq!(told(16, 3, 0, 0).to_string(), "refused 16 SYNC at 3");
+        assert_eq!(told(24, 3, 0, 0).to_string(), "refused 24 TRACE at 3");
+        assert_eq!(Told { number: 0, first: 0, second: 0, third: 0 }.or(1), Ok(1));
     }
 }

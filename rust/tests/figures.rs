@@ -135,7 +135,7 @@ fn days() {
 fn refusals_with_values() {
     let mut block = three_sets();
     block[32 + 64 + 9] = 0x13;
-    assert_eq!(segd::read_header(&block), Err(Refusal::Four { scan_type: 1, set: 3 }));
+    assert_eq!(segd::read_header(&block), Err(Refusal::Four { scan_type: 1, set: 3, place: None }));
     block[32 + 33] = 0x07;
     assert_eq!(segd::read_header(&block), Err(Refusal::Descriptor { scan_type: 1, set: 2 }));
     let mut block = case_l();
@@ -177,7 +177,7 @@ fn headers_of_traces() {
     block.extend(set(2, 1, 3, 1));
     let h = accepted(&block);
     assert_eq!((h.code, h.bytes_per_scan, h.samples_per_scan), (0x8015, 0, 6));
-    assert!(matches!(segd::open(&block), Ok(Opened::Traces)));
+    assert!(matches!(segd::open(&block), Ok(Opened::Traces(_))));
     let place = Place { set: 1, channel: 3, subscan: 1 };
     assert_eq!(segd::sample_place(&block, 2, 5), Ok(place));
     block[64 + 9] = 0x04;

@@ -1,6 +1,9 @@
 //! Checks the reader against the figures of the description and the worked
 //! examples of the paper, and the makers against the reader.
 
+#[path = "self_check/traces.rs"]
+mod traces;
+
 use conformance::make::bodies::{damaged_body, sound_body};
 use conformance::make::calls::{cut, in_one};
 use conformance::make::headers::{
@@ -13,11 +16,12 @@ use conformance::make::records::{
     large_blocks, long_shot, longest_scans, switched_interval, Record,
 };
 use conformance::make::rng::Rng;
-use conformance::reader::body::{open, read_body, Body, Cause, Kind, Report, Stop};
+use conformance::reader::body::{fault, open, Body, Cause, Kind, Report, Stop};
 use conformance::reader::calls::{answers, uncut, Answer, Call};
 use conformance::reader::header::{descriptor, packed, read_header, Header};
 use conformance::reader::image::list;
 use conformance::reader::layout::*;
+use conformance::reader::scans::read_scans;
 use conformance::reader::words::{count, letters, read_word, CODES, TRACE_CODES};
 use conformance::reader::{refusal, refusal_with, Refusal};
 use conformance::tally::Tally;
@@ -400,7 +404,7 @@ fn check_paper_figures(checks: &mut Checks) {
     checks.equal("k 148", sample_place(&block, 1, 148), Err(refusal(11)));
     checks.equal("first word", sample_bytes(&block, 1, 0), Ok((10, 2)));
     checks.equal("last word", sample_bytes(&block, 1, 147), Ok((376, 2)));
-    checks.equal("exponent of 147", exponent_start(0x0015, 147), Some((369, false)));
+    checks.equal("exponent of 147", exponent_offset(0x0015, 147), Some((361, false)));
 }
 
 /// The header lengths of the paper's six examples.
@@ -470,7 +474,7 @@ fn blocks(texts: &[&str], rest: &str) -> Body {
 }
 
 fn check_case_l(checks: &mut Checks) {
-    let reading = read_body(&l_header(), &blocks(&[L_BODY], "")).unwrap();
+    let reading = read_scans(&l_header(), &blocks(&[L_BODY], "")).unwrap();
     let numbers: Vec<_> = reading.samples.iter().map(|s| (s.m, s.x, s.off)).collect();
     let wanted = [(8, -2, false), (-8, -2, false), (0, 10, true), (0, -4, false)];
     checks.equal("case L samples", &numbers[..4], &wanted[..]);
@@ -479,7 +483,8 @@ fn check_case_l(checks: &mut Checks) {
         reading.samples.iter().map(|s| s.end).collect::<Vec<_>>(),
         (8..12).chain(20..24).collect(),
     );
-    let report = Report { scans: 2, samples: 8, off: 1, scan_type: 1, itb: false, window: None };
+    let report =
+        Report { scans: 2, samples: 8, off: 1, scan_type: 1, itb: Some(false), window: None };
     checks.equal("case L report", reading.closing, Ok(report));
     let text = "1 file 0007 format 0022 scans 2 samples 8 off 1\nreel ok\n";
     let image = hex(&format!(
@@ -514,7 +519,7 @@ fn check_stops(checks: &mut Checks) {
         (&[both.as_str(), ""], "00", 15, 24),
     ];
     for (texts, rest, number, place) in cases {
-        let got = read_body(&l_header(), &blocks(texts, rest)).unwrap();
+        let got = read_scans(&l_header(), &blocks(texts, rest)).unwrap();
         checks.equal(
             &format!("{texts:?} {rest}"),
             got.closing,
@@ -531,7 +536,7 @@ fn check_closings(checks: &mut Checks) {
         (&[], L_BODY, 20),
     ];
     for (texts, rest, number) in cases {
-        let got = read_body(&l_header(), &blocks(texts, rest)).unwrap();
+        let got = read_scans(&l_header(), &blocks(texts, rest)).unwrap();
         checks.equal(&format!("closing {rest}"), got.closing, Err(refusal(number)));
     }
 }
@@ -542,7 +547,7 @@ fn check_gapped(checks: &mut Checks) {
     let scans: Vec<String> =
         (0..5u32).map(|n| format!("FFFFFF01{:06X}00 00000000", n * 512)).collect();
     let whole = [scans[..2].concat(), scans[2..4].concat()];
-    let close = |texts: &[&str], rest: &str| read_body(&block, &blocks(texts, rest)).unwrap();
+    let close = |texts: &[&str], rest: &str| read_scans(&block, &blocks(texts, rest)).unwrap();
     let two = close(&[&whole[0], &whole[1]], "");
     checks.equal("two blocks", two.closing.map(|r| (r.scans, r.samples)), Ok((4, 16)));
     checks.equal("one scan", close(&[&scans[0]], "").closing, Err(refusal_with(15, &[12])));
@@ -552,13 +557,13 @@ fn check_gapped(checks: &mut Checks) {
         Err(refusal_with(15, &[24])),
     );
     let end_first = close(&[&scans[0], "00"], "").stop;
-    let stop = Stop { number: 15, place: 12, cause: Cause::End(0) };
+    let stop = Stop { fault: fault(15), place: 12, cause: Cause::End(0) };
     checks.equal("end before byte", end_first, Some(stop));
     checks.equal("open block", close(&[&whole[0]], &scans[2]).closing, Err(refusal(20)));
     checks.equal("open full block", close(&[], &whole[0]).closing, Err(refusal(20)));
     checks.equal("part", close(&[&whole[0]], "FF").closing, Err(refusal(19)));
     let empty = close(&[&whole[0], "", &whole[1]], "");
-    let stop = Stop { number: 15, place: 24, cause: Cause::End(1) };
+    let stop = Stop { fault: fault(15), place: 24, cause: Cause::End(1) };
     checks.equal("empty block", (empty.stop, empty.samples.len()), (Some(stop), 8));
 }
 
@@ -566,10 +571,10 @@ fn check_gapped(checks: &mut Checks) {
 fn check_status(checks: &mut Checks) {
     let block = l_with(23, "80");
     let texts = ["FFFFFF2D FFF80000 00000000 FFFFFFC1 00000000 00000000"];
-    let report = read_body(&block, &blocks(&texts, "")).unwrap().closing.unwrap();
-    checks.equal("T starts again", (report.itb, report.window), (true, Some(0)));
+    let report = read_scans(&block, &blocks(&texts, "")).unwrap().closing.unwrap();
+    checks.equal("T starts again", (report.itb, report.window), (Some(true), Some(0)));
     let stays = ["FFFFFF01 FFF80000 00000000 FFFFFF01 FFF80000 00000000"];
-    let closing = read_body(&block, &blocks(&stays, "")).unwrap().closing;
+    let closing = read_scans(&block, &blocks(&stays, "")).unwrap().closing;
     checks.equal("T stays", closing, Err(refusal_with(17, &[19])));
 }
 
@@ -580,7 +585,7 @@ fn check_scan_types(checks: &mut Checks) {
     let close = |bits: &[u8]| {
         let scans =
             bits.iter().enumerate().map(|(n, bit)| format!("FFFFFF{bit:02X}{:06X}00", n * 16));
-        read_body(&block, &blocks(&[&scans.collect::<String>()], "")).unwrap().closing
+        read_scans(&block, &blocks(&[&scans.collect::<String>()], "")).unwrap().closing
     };
     checks.equal("B 8", read_header(&block).map(|h| h.bytes_per_scan), Ok(8));
     checks.equal(
@@ -644,8 +649,8 @@ fn check_lists(checks: &mut Checks) {
     checks.equal("two blocks", list(&twice).as_str(), "1 refused 15 at 24\nreel ok\n");
     let of_traces = [l_of_traces(0x8022), l_of_traces(0x8023), l_with(3, "8022")];
     let files = of_traces.map(|block| vec![block, hex(L_BODY)]);
-    let text = "1 refused 3 at 0\n2 refused 2 at 0\n3 refused 5 at 0\nreel ok\n";
-    checks.equal("traces, not read yet", list(&reel(&files)).as_str(), text);
+    let text = "1 refused 24 at 0\n2 refused 2 at 0\n3 refused 5 at 0\nreel ok\n";
+    checks.equal("scans for traces", list(&reel(&files)).as_str(), text);
 }
 
 /// Every planned header is accepted and its samples are numbered both ways.
@@ -758,7 +763,7 @@ fn refused(answer: &Answer) -> Option<&Refusal> {
 
 /// The report on a record that has to be sound.
 fn report((block, body): &Record) -> Report {
-    let reading = read_body(block, body).expect("the header is accepted");
+    let reading = read_scans(block, body).expect("the header is accepted");
     reading.closing.expect("nothing is wrong with the body")
 }
 
@@ -813,7 +818,7 @@ fn main() {
         check_trace_questions, check_paper_figures, check_paper_lengths, check_paper_skew, check_times,
         check_parts, check_case_l, check_stops, check_closings, check_gapped, check_status,
         check_scan_types, check_calls, check_lists, check_made_reels, check_made_words,
-        check_made_records,
+        check_made_records, traces::check,
     ];
     fixed.iter().for_each(|check| check(&mut checks));
     check_made_headers(&mut checks, &mut tally);

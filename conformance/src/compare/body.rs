@@ -11,7 +11,8 @@ use crate::make::calls::cut;
 use crate::make::headers::{damaged_header, header, small_plan, wide_plan, Plan};
 use crate::make::rng::Rng;
 use crate::ours::body as ours;
-use crate::ours::body::{Shape, State};
+use crate::ours::body::{Opened, Shape, State};
+use crate::ours::traces::Traces;
 use crate::reader::body::{kind_of as body_kind, Body, Kind};
 use crate::reader::calls::{answers, uncut, Answer, Call};
 use crate::reader::header::{read_header, Header};
@@ -32,18 +33,40 @@ pub fn compare(results: &mut Results, effort: Effort) {
 
 const ONE_BLOCK: &str = "one block";
 
-/// The fields of a state whose meaning before the first byte is written down:
-/// the header's, and what is counted so far.
-fn fresh_fields(state: State) -> (Shape, [u32; 6]) {
-    let State { shape, place, ends, off, track, stop, .. } = state;
-    (shape, [place, ends, off, track.seen, track.twi, stop])
+pub(super) use forged::each_call;
+
+/// The fields of a state whose meaning before the first byte is written down: the
+/// header's, and what is counted so far.
+#[derive(Debug, PartialEq, Eq)]
+enum Fresh {
+    Scans(Shape, [u32; 6]),
+    Traces(u16, [u32; 8]),
 }
 
-/// The shape that a header's body has, nothing counted. A body of traces has no
-/// state yet: all of it is 0.
-fn fresh_state(header: &Header) -> State {
+fn fresh_fields(opened: Opened) -> Fresh {
+    match opened {
+        Opened::Scans(State { shape, place, ends, off, track, stop, .. }) => {
+            Fresh::Scans(shape, [place, ends, off, track.seen, track.twi, stop])
+        }
+        Opened::Traces(Traces {
+            code,
+            place,
+            ends,
+            at,
+            samples,
+            off,
+            present,
+            scans,
+            stop,
+            ..
+        }) => Fresh::Traces(code, [place, ends, at, samples, off, present, scans, stop]),
+    }
+}
+
+/// What a header says of its body, nothing counted.
+fn fresh_state(header: &Header) -> Opened {
     if body_kind(header) == Kind::Traces {
-        return State::default();
+        return Opened::Traces(Traces { code: header.code, ..Traces::default() });
     }
     let shape = Shape {
         code: header.code,
@@ -52,12 +75,7 @@ fn fresh_state(header: &Header) -> State {
         types: header.scan_types,
         block: header.block_scans << header.block_exponent,
     };
-    State { shape, ..State::default() }
-}
-
-/// What an opening has to say of an accepted header.
-fn opened(header: &Header) -> (Kind, (Shape, [u32; 6])) {
-    (body_kind(header), fresh_fields(fresh_state(header)))
+    Opened::Scans(State { shape, ..State::default() })
 }
 
 /// Openings; those of traces are counted apart, so that they have to come up.
@@ -66,10 +84,10 @@ fn compare_openings(results: &mut Results, effort: Effort) {
     let mut sorted = Sorted::new("openings", &kinds);
     let mut traces = Group::new("openings, of traces", &[0]);
     each_block(results, 601, effort.of(100_000, 1_000_000), |_, _, block| {
-        let said = ours::open(block).map(|(kind, state)| (kind, fresh_fields(state)));
-        let wanted = read_header(block).map(|header| opened(&header));
+        let said = ours::open(block).map(fresh_fields);
+        let wanted = read_header(block).map(|header| fresh_fields(fresh_state(&header)));
         match wanted {
-            Ok((Kind::Traces, _)) => traces.answers(said, wanted, || hex(block)),
+            Ok(Fresh::Traces(..)) => traces.answers(said, wanted, || hex(block)),
             _ => sorted.answers(said, wanted, || hex(block)),
         }
     });
@@ -111,7 +129,7 @@ fn groups_of_calls(shape: &str) -> [Group; 3] {
 }
 
 /// The call's place among those groups.
-fn kind_of(call: &Call) -> usize {
+pub(super) fn kind_of(call: &Call) -> usize {
     match call {
         Call::Portion { .. } => 0,
         Call::BlockEnd => 1,
@@ -119,7 +137,7 @@ fn kind_of(call: &Call) -> usize {
     }
 }
 
-fn refusal_in(answer: &Answer) -> Option<&Refusal> {
+pub(super) fn refusal_in(answer: &Answer) -> Option<&Refusal> {
     match answer {
         Answer::Portion { refusal, .. } | Answer::BlockEnd(refusal) => refusal.as_ref(),
         Answer::Close(report) => report.as_ref().err(),
@@ -127,7 +145,7 @@ fn refusal_in(answer: &Answer) -> Option<&Refusal> {
 }
 
 /// The answer of a call that hands out nothing but a refusal.
-fn turned_away(call: &Call, refusal: Refusal) -> Answer {
+pub(super) fn turned_away(call: &Call, refusal: Refusal) -> Answer {
     match call {
         Call::Portion { .. } => Answer::Portion { numbers: Vec::new(), refusal: Some(refusal) },
         Call::BlockEnd => Answer::BlockEnd(Some(refusal)),
@@ -158,7 +176,7 @@ fn show_call(call: &Call) -> String {
 
 /// The header, the calls up to the one that is asked about, and what they
 /// bring, the refused portions left out.
-fn show(block: &[u8], calls: &[Call]) -> String {
+pub(super) fn show(block: &[u8], calls: &[Call]) -> String {
     let Body { blocks, rest } = uncut(calls);
     let bytes: Vec<u8> = blocks.into_iter().chain([rest]).flatten().collect();
     let calls: Vec<String> = calls.iter().map(show_call).collect();
@@ -206,7 +224,7 @@ fn ask_each(groups: &mut [Group], kind: fn(&Call) -> usize, block: &[u8], calls:
 }
 
 /// A header that is refused.
-fn refused_header(rng: &mut Rng, plan: &Plan) -> Vec<u8> {
+pub(super) fn refused_header(rng: &mut Rng, plan: &Plan) -> Vec<u8> {
     loop {
         let block = damaged_header(rng, plan);
         if read_header(&block).is_err() {

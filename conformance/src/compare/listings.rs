@@ -4,11 +4,12 @@ use super::inputs::{hex, HEADER_ROWS};
 use super::{Effort, Group, Results};
 use crate::make::images::{any_reel, file, in_portions, reel, LONGEST_PORTION};
 use crate::make::records::{large_blocks, long_shot, longest_scans, switched_interval};
+use crate::make::records::{long_trace, switched_traces};
 use crate::make::rng::Rng;
 use crate::ours::lister::listing;
 use crate::reader::image::list;
-use crate::reader::words::CODES;
-use crate::reader::{BLOCK, DEMUX, LARGE, MISSING, PHASE, SYNC, TIMING};
+use crate::reader::words::{CODES, TRACE_CODES};
+use crate::reader::{BLOCK, COUNT, FOUR, LARGE, MISSING, PHASE, SYNC, TIMING, TRACE};
 use std::thread;
 
 pub fn compare(results: &mut Results, effort: Effort) {
@@ -17,13 +18,15 @@ pub fn compare(results: &mut Results, effort: Effort) {
 }
 
 /// The rows that a body of whole items may be turned away by, and the lister's
-/// own, among them DEMUX until it reads bodies of traces. LONG takes an image of
-/// four thousand million bytes; PART and OPEN cannot be, since every item ends in a
-/// block end.
-const BODY_ROWS: [u8; 7] = [BLOCK, SYNC, TIMING, PHASE, MISSING, LARGE, DEMUX];
+/// own. LONG takes an image of four thousand million bytes; PART and OPEN cannot be,
+/// since every item ends in a block end.
+const BODY_ROWS: [u8; 8] = [BLOCK, SYNC, TIMING, PHASE, MISSING, LARGE, TRACE, COUNT];
 
 /// The second word of a refused record's line.
 const REFUSED: &str = "refused";
+
+/// What stands for that word where row 8 is no header's but stops a body.
+const STOPPED: &str = "stopped";
 
 const ENDINGS: [&str; 3] = ["reel ok", "reel cut", "reel version"];
 
@@ -36,14 +39,15 @@ struct Kinds {
 impl Kinds {
     fn new() -> Kinds {
         let kind = |kind: &str, about: &str, due: &[u8]| (kind.to_string(), Group::new(about, due));
-        let listed = CODES.map(|code| {
+        let listed = listed_codes().map(|code| {
             let digits = format!("{code:04X}");
             kind(&digits, &format!("records of {digits} listed"), &[0])
         });
         let rows = [&HEADER_ROWS[..], &BODY_ROWS].concat();
         let refused = kind(REFUSED, "records refused", &rows);
+        let stopped = kind(STOPPED, "records of 8015 stopped", &[FOUR]);
         let endings = ENDINGS.map(|last| kind(last, &format!("listings to `{last}`"), &[0]));
-        Kinds { groups: listed.into_iter().chain([refused]).chain(endings).collect() }
+        Kinds { groups: listed.chain([refused, stopped]).chain(endings).collect() }
     }
 
     /// Compares what stands for a line of the reader's.
@@ -55,10 +59,16 @@ impl Kinds {
     }
 }
 
+/// The codes in the order of their groups.
+fn listed_codes() -> impl Iterator<Item = u16> {
+    CODES.into_iter().chain(TRACE_CODES)
+}
+
 /// The kind of a line, and its row.
 fn kind_of(line: &str) -> (&str, usize) {
     match line.split(' ').collect::<Vec<_>>()[..] {
         [_, "file", _, "format", code, ..] => (code, 0),
+        [_, REFUSED, "8", "at", place] if place != "0" => (STOPPED, FOUR.into()),
         [_, REFUSED, number, "at", _] => (REFUSED, number.parse().expect("a row's number")),
         _ => (line, 0),
     }
@@ -97,7 +107,7 @@ fn compare_drawn(results: &mut Results, effort: Effort) {
     for (n, Drawn { image, ours, wanted }) in (0..).zip(firsts.flat_map(side_by_side)) {
         compare_lines(&mut kinds, &ours, &wanted, || format!("reel {n}, {}", hex(&image)));
     }
-    for (code, (_, group)) in CODES.into_iter().zip(&kinds.groups) {
+    for (code, (_, group)) in listed_codes().zip(&kinds.groups) {
         results.code(code, group.asked());
     }
     kinds.groups.into_iter().for_each(|(_, group)| results.add(group));
@@ -127,6 +137,8 @@ fn compare_long(results: &mut Results) {
         switched_interval(&mut rng, 0x0044, 3_000),
         large_blocks(&mut rng, 0x0015, 2),
         longest_scans(&mut rng, 1),
+        long_trace(&mut rng, 0x8048, 20_000),
+        switched_traces(&mut rng, 0x8015, 1_000),
     ];
     let image = reel(&records.map(file));
     let wanted = list(&image);

@@ -1,4 +1,4 @@
-//! Where a sample stands in its scan, asked both ways.
+//! Where a sample stands in its scan, asked both ways, and in its trace.
 
 use super::inputs::{any_number, each_block, hex, numbers, HEADER_ROWS};
 use super::{Effort, Results, Sorted};
@@ -6,7 +6,9 @@ use crate::make::headers::{Plan, Set};
 use crate::make::questions::near;
 use crate::make::rng::Rng;
 use crate::ours::places as ours;
+use crate::ours::traces as ours_of_traces;
 use crate::reader::layout::{sample_index, sample_place};
+use crate::reader::traces::trace_place;
 use crate::reader::INDEX;
 
 /// Samples of a scan up to which each is asked about.
@@ -24,6 +26,34 @@ pub fn compare(results: &mut Results, effort: Effort) {
     });
     results.add_sorted(indices);
     results.add_sorted(places);
+    compare_traces(results, effort);
+}
+
+/// Samples of traces: the record has to be demultiplexed and to have such a trace.
+fn compare_traces(results: &mut Results, effort: Effort) {
+    let kinds: [(&str, &[u8]); 3] =
+        [("found", &[0]), ("no such trace", &[INDEX]), ("header refused", &HEADER_ROWS)];
+    let mut places = Sorted::new("place of a sample of a trace", &kinds);
+    each_block(results, 302, effort.of(30_000, 400_000), |rng, plan, block| {
+        for trace in any_traces(rng, plan) {
+            let most = rng.pick(&[3, 1_000, u32::MAX - 1]);
+            let sample = near(rng, most);
+            let ours = ours_of_traces::trace_place(block, trace, sample);
+            let wanted = trace_place(block, trace, sample);
+            places
+                .answers(ours, wanted, || format!("trace {trace} sample {sample} {}", hex(block)));
+        }
+    });
+    results.add_sorted(places);
+}
+
+/// Each trace of a small record and one too many, else some.
+fn any_traces(rng: &mut Rng, plan: &Plan) -> Vec<u32> {
+    let traces = plan.scan_types.iter().flatten().map(|set| set.channels).sum();
+    if traces <= FEW && rng.once_in(4) {
+        return (0..=traces).collect();
+    }
+    (0..4).map(|_| near(rng, traces)).collect()
 }
 
 /// Each k of a short scan and one too many, else some.

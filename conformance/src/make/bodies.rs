@@ -1,4 +1,4 @@
-//! Bodies, sound and damaged.
+//! Bodies of scans, sound and damaged.
 
 use super::headers::Plan;
 use super::rng::Rng;
@@ -58,7 +58,7 @@ fn start_of_scan(rng: &mut Rng, dynamic: bool, status: u8, timing: u32) -> Vec<u
 }
 
 /// Sample bytes: drawn, with many zeros, ones and start codes among them.
-fn any_sample_bytes(rng: &mut Rng, count: usize) -> Vec<u8> {
+pub(super) fn any_sample_bytes(rng: &mut Rng, count: usize) -> Vec<u8> {
     let dense = rng.once_in(3);
     (0..count)
         .map(|_| match rng.below(if dense { 6 } else { 40 }) {
@@ -141,7 +141,7 @@ fn extra_flip(rng: &mut Rng, plan: &Plan, block: &mut [u8]) {
 }
 
 /// Leaves out, puts in or repeats a few bytes of a block.
-fn shift_bytes(rng: &mut Rng, block: &mut Vec<u8>) {
+pub(super) fn shift_bytes(rng: &mut Rng, block: &mut Vec<u8>) {
     let place = rng.index(block.len());
     match rng.below(3) {
         0 => drop(block.remove(place)),
@@ -161,7 +161,7 @@ fn shift_scan(rng: &mut Rng, plan: &Plan, block: &mut Vec<u8>) {
 }
 
 /// Damage to the places of the block ends.
-fn move_ends(rng: &mut Rng, body: &mut Body) {
+pub(super) fn move_ends(rng: &mut Rng, body: &mut Body) {
     let i = rng.index(body.blocks.len());
     match rng.below(5) {
         0 => body.blocks.insert(i, vec![]),
@@ -198,7 +198,7 @@ fn change_length(rng: &mut Rng, plan: &Plan, body: &mut Body) {
 }
 
 /// Writes a random byte over one place of the body, if it has any.
-fn scribble(rng: &mut Rng, body: &mut Body) {
+pub(super) fn scribble(rng: &mut Rng, body: &mut Body) {
     let parts = body.blocks.iter_mut().chain([&mut body.rest]);
     let mut filled: Vec<&mut Vec<u8>> = parts.filter(|part| !part.is_empty()).collect();
     if !filled.is_empty() {

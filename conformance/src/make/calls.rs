@@ -2,7 +2,7 @@
 
 use super::rng::Rng;
 use crate::reader::body::Body;
-use crate::reader::calls::Call;
+use crate::reader::calls::{Call, Lent};
 
 /// A length of a portion: none, one byte, a few, or up to all that is left.
 fn any_length(rng: &mut Rng, left: usize) -> usize {
@@ -68,4 +68,20 @@ pub fn in_one(body: &Body) -> Vec<Call> {
     let portion = |bytes: &Vec<u8>| Call::Portion { bytes: bytes.clone(), room: bytes.len() * 2 };
     let ended = body.blocks.iter().flat_map(|block| [portion(block), Call::BlockEnd]);
     ended.chain([portion(&body.rest), Call::Close]).collect()
+}
+
+/// The calls on a body of traces, each lent its header block. Between them the next
+/// call is put with another block: one that is too short, or one of the others.
+pub fn lend(rng: &mut Rng, block: &[u8], others: &[Vec<u8>], calls: &[Call]) -> Vec<Lent> {
+    let with = |block: &[u8], call: &Call| Lent { block: block.to_vec(), call: call.clone() };
+    let mut lent = Vec::new();
+    for call in calls {
+        match rng.below(30) {
+            0 => lent.push(with(&block[..rng.index(block.len())], call)),
+            1 | 2 => lent.push(with(&others[rng.index(others.len())], call)),
+            _ => {}
+        }
+        lent.push(with(block, call));
+    }
+    lent
 }

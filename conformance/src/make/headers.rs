@@ -188,6 +188,17 @@ pub fn small_plan(rng: &mut Rng, code: u16) -> Plan {
     any_plan(rng, code, scan_types, sets, most)
 }
 
+/// A plan whose traces are few and short, at times with very many scan types.
+pub fn trace_plan(rng: &mut Rng, code: u16) -> Plan {
+    if rng.once_in(60) {
+        return any_plan(rng, code, 99, 2, 2);
+    }
+    let scan_types = if rng.once_in(2) { 1 } else { rng.range(1, 4) };
+    let sets = rng.range(1, 4);
+    let most = rng.pick(&[0, 1, 4, 12, 12, 40]);
+    any_plan(rng, code, scan_types, sets, most)
+}
+
 /// The most samples that a scan can have: those that B can count, and in the codes
 /// 80xx, where nothing counts them, those of 99 sets of the greatest.
 fn most_samples(code: u16) -> u32 {

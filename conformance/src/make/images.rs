@@ -2,9 +2,10 @@
 
 use super::bodies::{damaged_body, sound_body};
 use super::headers::{any_code, any_trace_code, damaged_header, header};
-use super::headers::{largest_plan, small_plan, wide_plan};
+use super::headers::{largest_plan, small_plan, trace_plan, wide_plan};
 use super::records::Record;
 use super::rng::Rng;
+use super::traces::{damaged_traces, sound_traces};
 
 /// A file of a reel: its header item, then its blocks. None may be empty.
 pub type File = Vec<Vec<u8>>;
@@ -40,20 +41,24 @@ pub fn file((block, body): Record) -> File {
     parts.filter(|bytes| !bytes.is_empty()).collect()
 }
 
-/// A header of a demultiplexed record, mostly sound.
-fn trace_header(rng: &mut Rng) -> Vec<u8> {
+/// A file of a demultiplexed record, sound or damaged; its header is at times the
+/// longest that is listed.
+fn trace_file(rng: &mut Rng) -> File {
     let code = any_trace_code(rng);
-    let plan = small_plan(rng, code);
-    if rng.once_in(3) {
-        damaged_header(rng, &plan)
-    } else {
-        header(rng, &plan)
-    }
+    let plan = if rng.once_in(40) { largest_plan(rng, code) } else { trace_plan(rng, code) };
+    let block = header(rng, &plan);
+    let make = if rng.once_in(2) { sound_traces } else { damaged_traces };
+    let body = make(rng, &plan, &block);
+    let lent = if rng.once_in(12) { damaged_header(rng, &plan) } else { block };
+    file((lent, body))
 }
 
-/// A file that may be sound, damaged or too large. Bodies of traces are not read
-/// yet, so a header that announces one is followed by scans.
+/// A file that may be sound, damaged or too large, of scans or of traces; at times the
+/// header announces the other of them.
 pub fn any_file(rng: &mut Rng) -> File {
+    if rng.once_in(3) {
+        return trace_file(rng);
+    }
     let code = any_code(rng);
     let plan = if rng.once_in(40) { largest_plan(rng, code) } else { small_plan(rng, code) };
     let body = if rng.once_in(2) { sound_body(rng, &plan) } else { damaged_body(rng, &plan) };
@@ -64,7 +69,11 @@ pub fn any_file(rng: &mut Rng) -> File {
             header(rng, &wide)
         }
         3..=8 => damaged_header(rng, &plan),
-        9..=11 => trace_header(rng),
+        9 => {
+            let code = any_trace_code(rng);
+            let traces = small_plan(rng, code);
+            header(rng, &traces)
+        }
         _ => header(rng, &plan),
     };
     file((block, body))

@@ -7,3 +7,4 @@ pub mod images;
 pub mod questions;
 pub mod records;
 pub mod rng;
+pub mod traces;

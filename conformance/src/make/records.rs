@@ -3,6 +3,7 @@
 use super::bodies::even_body;
 use super::headers::{header, plain, set, Plan};
 use super::rng::Rng;
+use super::traces::even_traces;
 use crate::reader::body::Body;
 
 /// A header block and its body.
@@ -39,4 +40,22 @@ pub fn large_blocks(rng: &mut Rng, code: u16, blocks: usize) -> Record {
 pub fn longest_scans(rng: &mut Rng, scans: usize) -> Record {
     let recorded = plain(0x0022, vec![vec![set(1_953, 9), set(55, 0)]]);
     record(rng, &Plan { skew_fields: 0, ..recorded }, scans)
+}
+
+/// Two traces of a demultiplexed record, of so many samples each and of twice as many.
+pub fn long_trace(rng: &mut Rng, code: u16, samples: usize) -> Record {
+    let plan = plain(code, vec![vec![set(1, 0), set(1, 1)]]);
+    let block = header(rng, &plan);
+    let body = even_traces(rng, &plan, &block, &[samples]);
+    (block, body)
+}
+
+/// The paper's example 6, demultiplexed: so many scans of each scan type.
+pub fn switched_traces(rng: &mut Rng, code: u16, scans: usize) -> Record {
+    let first = vec![set(4, 0), set(6, 2), set(6, 2)];
+    let second = vec![set(4, 0), set(48, 0), set(0, 0)];
+    let plan = plain(code, vec![first, second]);
+    let block = header(rng, &plan);
+    let body = even_traces(rng, &plan, &block, &[scans, 2 * scans]);
+    (block, body)
 }

@@ -1,9 +1,12 @@
-//! The body: opening, portions, block ends and closing over a state of numbers.
+//! The body: opening, portions, block ends and closing over a state of numbers. What
+//! is answered on a body of traces comes in the same terms, and is read here too.
 
+use super::traces::{self, Traces};
 use super::{row, unfold, Told};
-use crate::reader::body::{Kind, Report};
+use crate::reader::body::Report;
 use crate::reader::calls::{Answer, Call};
 use crate::reader::Refusal;
+use std::fmt::Debug;
 
 /// What the header says of the body.
 #[repr(C)]
@@ -57,18 +60,21 @@ struct SegdOpened {
     /// 0 where refused, 1 for scans, 2 for traces
     kind: u8,
     state: State,
+    traces: Traces,
 }
 
+/// The answer to a portion or to a block end, on a body of either kind.
 #[repr(C)]
-struct SegdGave {
-    state: State,
+pub(super) struct Gave<S> {
+    pub state: S,
     outcome: u32,
     refusal: Told,
     samples: u64,
 }
 
+/// The answer to the closing question, likewise.
 #[repr(C)]
-struct SegdClosing {
+pub(super) struct Closing {
     refusal: Told,
     scans: u32,
     off: u32,
@@ -88,9 +94,9 @@ extern "C" {
         length: usize,
         out: *mut i32,
         room: usize,
-    ) -> SegdGave;
-    fn segd_block_end(state: State) -> SegdGave;
-    fn segd_close(state: State) -> SegdClosing;
+    ) -> Gave<State>;
+    fn segd_block_end(state: State) -> Gave<State>;
+    fn segd_close(state: State) -> Closing;
 }
 
 /// An answer, or what about it no answer may be.
@@ -106,23 +112,58 @@ const UNTOUCHED: i32 = 0x5AA5_5AA5;
 /// Numbers kept after the output lent, to see that no call writes there.
 const BEYOND: usize = 4;
 
-/// The kind of the body and the state before its first byte. A refused opening has
-/// to hand out neither, and one of traces a state that is all 0.
-pub fn open(block: &[u8]) -> Result<(Kind, State), Refusal> {
-    let opened = unsafe { segd_open(block.as_ptr(), block.len()) };
-    unfold(opened.refusal, (opened.kind, opened.state), |(kind, state)| match kind {
-        1 => Some((Kind::Scans, state)),
-        2 => (state == State::default()).then_some((Kind::Traces, state)),
+/// The kind of the body and the state before its first byte.
+#[derive(Clone, Copy, Debug, PartialEq, Eq)]
+pub enum Opened {
+    Scans(State),
+    Traces(Traces),
+}
+
+/// The calls on a body of either kind. The header block is for those on traces.
+impl Opened {
+    pub fn portion(&mut self, block: &[u8], bytes: &[u8], room: usize) -> Said {
+        match self {
+            Opened::Scans(state) => portion(state, bytes, room),
+            Opened::Traces(state) => traces::portion(block, state, bytes, room),
+        }
+    }
+
+    pub fn block_end(&mut self, block: &[u8]) -> Said {
+        match self {
+            Opened::Scans(state) => block_end(state),
+            Opened::Traces(state) => traces::end(block, state),
+        }
+    }
+
+    pub fn close(&self, block: &[u8]) -> Result<Report, Refusal> {
+        match self {
+            Opened::Scans(state) => close(*state),
+            Opened::Traces(state) => traces::close(block, *state),
+        }
+    }
+}
+
+/// Opens a body. A refused opening has to hand out no kind and nothing but 0 in both
+/// states, and an accepted one nothing but 0 in the state of the other kind.
+pub fn open(block: &[u8]) -> Result<Opened, Refusal> {
+    let SegdOpened { refusal, kind, state, traces } =
+        unsafe { segd_open(block.as_ptr(), block.len()) };
+    unfold(refusal, (kind, state, traces), |_| match kind {
+        1 if traces == Traces::default() => Some(Opened::Scans(state)),
+        2 if state == State::default() => Some(Opened::Traces(traces)),
         _ => None,
     })
 }
 
-/// The state that an opening hands out, refused or not.
+/// The state of a body of scans that an opening hands out, refused or not.
 pub fn opened_state(block: &[u8]) -> State {
-    open(block).map(|(_, state)| state).unwrap_or_default()
+    match open(block) {
+        Ok(Opened::Scans(state)) => state,
+        _ => State::default(),
+    }
 }
 
-fn demand(sound: bool, told: impl Fn() -> String) -> Result<(), String> {
+pub(super) fn demand(sound: bool, told: impl Fn() -> String) -> Result<(), String> {
     if sound {
         Ok(())
     } else {
@@ -130,22 +171,61 @@ fn demand(sound: bool, told: impl Fn() -> String) -> Result<(), String> {
     }
 }
 
-fn outcome_of_row(number: u32) -> u32 {
-    match number {
+/// The outcome that belongs to a refusal. Row 8 is a stop where it has a place, and
+/// else one of a header.
+fn outcome_of_row(told: Told) -> u32 {
+    match told.number {
         0 => GOING_ON,
-        14..=18 => STOPPED,
+        8 if told.third != 0 => STOPPED,
+        14..=18 | 24 | 25 => STOPPED,
         _ => REFUSED,
     }
 }
 
+/// What a state of either kind says of its stop.
+pub(super) trait Stops: Copy + PartialEq + Debug {
+    fn stopped(&self) -> bool;
+}
+
+impl Stops for State {
+    fn stopped(&self) -> bool {
+        self.stop != 0
+    }
+}
+
 /// The refusal of a portion or of a block end. Its outcome has to be that of its
-/// row, and a call that is refused may not change the state.
-fn refusal_of(before: State, gave: &SegdGave) -> Result<Option<Refusal>, String> {
+/// row, and a call that is refused, or that answers an earlier stop, may not change
+/// the state.
+fn refusal_of<S: Stops>(before: S, gave: &Gave<S>) -> Result<Option<Refusal>, String> {
     let (told, state) = (gave.refusal, gave.state);
-    let outcome = outcome_of_row(told.number);
+    let outcome = outcome_of_row(told);
     demand(gave.outcome == outcome, || format!("outcome {} with {told:?}", gave.outcome))?;
-    demand(outcome != REFUSED || state == before, || format!("{told:?} left {state:?}"))?;
+    let turned_away = outcome == REFUSED || before.stopped();
+    demand(!turned_away || state == before, || format!("{told:?} left {state:?}"))?;
     Ok((told != Told::default()).then(|| row(told)))
+}
+
+/// Output for a portion, and what follows it: what no call may write to.
+pub(super) fn output(room: usize) -> Vec<i32> {
+    vec![UNTOUCHED; room + BEYOND]
+}
+
+/// What a portion answered, with what it left in its output.
+pub(super) fn portion_said<S: Stops>(
+    before: S,
+    gave: &Gave<S>,
+    out: Vec<i32>,
+    room: usize,
+) -> Said {
+    let refusal = refusal_of(before, gave)?;
+    Ok(Answer::Portion { numbers: written(out, room, gave.samples)?, refusal })
+}
+
+/// What a block end answered.
+pub(super) fn end_said<S: Stops>(before: S, gave: &Gave<S>) -> Said {
+    let refusal = refusal_of(before, gave)?;
+    demand(gave.samples == 0, || format!("a block end with {} samples", gave.samples))?;
+    Ok(Answer::BlockEnd(refusal))
 }
 
 /// The numbers written. All after them has to be as it was.
@@ -159,20 +239,17 @@ fn written(mut out: Vec<i32>, room: usize, samples: u64) -> Result<Vec<i32>, Str
 }
 
 pub fn portion(state: &mut State, bytes: &[u8], room: usize) -> Said {
-    let mut out = vec![UNTOUCHED; room + BEYOND];
-    let gave = unsafe { segd_portion(*state, bytes.as_ptr(), bytes.len(), out.as_mut_ptr(), room) };
-    let refusal = refusal_of(*state, &gave)?;
-    let numbers = written(out, room, gave.samples)?;
+    let (before, mut out) = (*state, output(room));
+    let gave = unsafe { segd_portion(before, bytes.as_ptr(), bytes.len(), out.as_mut_ptr(), room) };
     *state = gave.state;
-    Ok(Answer::Portion { numbers, refusal })
+    portion_said(before, &gave, out, room)
 }
 
 pub fn block_end(state: &mut State) -> Said {
-    let gave = unsafe { segd_block_end(*state) };
-    let refusal = refusal_of(*state, &gave)?;
-    demand(gave.samples == 0, || format!("a block end with {} samples", gave.samples))?;
+    let before = *state;
+    let gave = unsafe { segd_block_end(before) };
     *state = gave.state;
-    Ok(Answer::BlockEnd(refusal))
+    end_said(before, &gave)
 }
 
 /// A number with a mark that says whether there is one; without it, it is 0.
@@ -184,13 +261,17 @@ fn known(mark: u32, number: u32) -> Option<Option<u32>> {
     }
 }
 
-/// A bit that has to be known: a body that closes has a first scan.
-fn bit(mark: u32, number: u32) -> Option<bool> {
-    known(mark, number)?.filter(|bit| *bit <= 1).map(|bit| bit == 1)
+/// A bit, likewise.
+fn bit(mark: u32, number: u32) -> Option<Option<bool>> {
+    match known(mark, number)? {
+        Some(bit) => (bit <= 1).then_some(Some(bit == 1)),
+        None => Some(None),
+    }
 }
 
-pub fn close(state: State) -> Result<Report, Refusal> {
-    let flat = unsafe { segd_close(state) };
+/// The report of a closing on a body of either kind; which of its marks are set is for
+/// the comparison to say.
+pub(super) fn report(flat: Closing) -> Result<Report, Refusal> {
     let counts = (flat.scans, flat.samples, flat.off, flat.last_type);
     let marks = (flat.itb_known, flat.itb, flat.window_known, flat.window);
     unfold(flat.refusal, (counts, marks), |_| {
@@ -203,6 +284,10 @@ pub fn close(state: State) -> Result<Report, Refusal> {
             window: known(flat.window_known, flat.window)?,
         })
     })
+}
+
+pub fn close(state: State) -> Result<Report, Refusal> {
+    report(unsafe { segd_close(state) })
 }
 
 /// Puts a call, and goes on with the state that it gives.

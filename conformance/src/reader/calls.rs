@@ -1,8 +1,13 @@
 //! What each call of a cut reading has to answer, taken from the uncut body.
 //!
-//! A call is judged by where it lies: the bytes and the block ends before it.
+//! A call is judged by where it lies: the bytes and the block ends before it. That
+//! is the same for bodies of scans and of traces; a call on traces is lent the header
+//! block besides.
 
-use super::body::{open, read_body, Body, Cause, Kind, Reading, Report, Sample, Stop};
+use super::body::{open, read, Body, Cause, Kind, Reading, Report, Sample, Stop};
+use super::header::read_header;
+use super::scans::read_scans;
+use super::traces::{read_traces, Standing, Traces};
 use super::{refusal, Refusal, ROOM, STATE};
 
 /// A call on an opened state. `room` is the length of the output lent.
@@ -11,6 +16,13 @@ pub enum Call {
     Portion { bytes: Vec<u8>, room: usize },
     BlockEnd,
     Close,
+}
+
+/// A call on a body of traces, with the header block that is lent to it.
+#[derive(Clone, Debug, PartialEq, Eq)]
+pub struct Lent {
+    pub block: Vec<u8>,
+    pub call: Call,
 }
 
 /// What a call answers. A portion's numbers are M, X, M, X and so on; the
@@ -74,8 +86,11 @@ fn refused(call: &Call, refusal: Refusal) -> Answer {
     }
 }
 
+/// How an opened body is read whole.
+type Reader<'a> = &'a dyn Fn(&Body) -> Reading;
+
 /// The answer of call `i`: an earlier stop, then ROOM, then what it brings.
-fn answer(block: &[u8], calls: &[Call], i: usize, reading: &Reading) -> Answer {
+fn answer(read: Reader, calls: &[Call], i: usize, reading: &Reading) -> Answer {
     let (before, after) = (extent(&calls[..i]), extent(&calls[..=i]));
     let call = &calls[i];
     let earlier = reading.stop.filter(|stop| within(stop, before));
@@ -92,21 +107,78 @@ fn answer(block: &[u8], calls: &[Call], i: usize, reading: &Reading) -> Answer {
             Answer::Portion { numbers: numbers(&reading.samples, before.0, after.0), refusal }
         }
         Call::BlockEnd => Answer::BlockEnd(refusal),
-        Call::Close => Answer::Close(closing(block, &calls[..i])),
+        // Closing is asked about the body so far, as if it were all.
+        Call::Close => Answer::Close(read(&uncut(&calls[..i])).closing),
     }
 }
 
-/// Closing is asked about the body so far, as if it were all.
-fn closing(block: &[u8], calls: &[Call]) -> Result<Report, Refusal> {
-    read_body(block, &uncut(calls))?.closing
+/// The answers of all calls on an opened body.
+fn each_answer(read: Reader, calls: &[Call]) -> Vec<Answer> {
+    let reading = read(&uncut(calls));
+    (0..calls.len()).map(|i| answer(read, calls, i, &reading)).collect()
 }
 
-/// The opening's answer, and every call's. After a refused opening, and after that
-/// of a body of traces, the state is unfit and every call answers so.
+/// The opening's answer, and every call's on scans. After a refused opening, and after
+/// that of a body of traces, the state is unfit and every call answers so.
 pub fn answers(block: &[u8], calls: &[Call]) -> (Result<Kind, Refusal>, Vec<Answer>) {
-    let each = match read_body(block, &uncut(calls)) {
-        Ok(reading) => (0..calls.len()).map(|i| answer(block, calls, i, &reading)).collect(),
-        Err(_) => calls.iter().map(|call| refused(call, refusal(STATE))).collect(),
+    let opened = open(block);
+    let each = match opened {
+        Ok(Kind::Scans) => {
+            let read = |body: &Body| read_scans(block, body).expect("it was opened");
+            each_answer(&read, calls)
+        }
+        _ => calls.iter().map(|call| refused(call, refusal(STATE))).collect(),
     };
-    (open(block), each)
+    (opened, each)
+}
+
+/// What turns a call on traces away before its state is looked into: the refusals of
+/// the block that it is lent, then STATE. The state of an opening is fit for its own
+/// block. Which other blocks it would be fit for is the library's to define, so that
+/// nothing is asked about those of the same code.
+fn turned_away(opening: &[u8], calls: &[Lent]) -> Vec<Option<Refusal>> {
+    let opened = open(opening);
+    let away = |lent: &Lent| match opened {
+        Ok(Kind::Traces) if *lent.block == *opening => None,
+        _ => Some(read_header(&lent.block).err().unwrap_or(refusal(STATE))),
+    };
+    calls.iter().map(away).collect()
+}
+
+/// The calls that are not turned away.
+fn taken(calls: &[Lent], away: &[Option<Refusal>]) -> Vec<Call> {
+    let both = calls.iter().zip(away);
+    both.filter(|(_, away)| away.is_none()).map(|(lent, _)| lent.call.clone()).collect()
+}
+
+/// How the state stands after each call on traces, on an accepted opening.
+pub fn standings(opening: &[u8], calls: &[Lent]) -> Result<Vec<Standing>, Refusal> {
+    let away = turned_away(opening, calls);
+    let traces = Traces::new(opening, &uncut(&taken(calls, &away)))?;
+    let reading = read(&traces);
+    let after = calls.iter().zip(&away).scan((0, 0), |so_far, (lent, away)| {
+        if away.is_none() {
+            let (bytes, ends) = extent(std::slice::from_ref(&lent.call));
+            *so_far = (so_far.0 + bytes, so_far.1 + ends);
+        }
+        let stop = reading.stop.filter(|stop| within(stop, *so_far));
+        Some(traces.standing(&reading, stop, *so_far))
+    });
+    Ok(after.collect())
+}
+
+/// The opening's answer, and every call's on traces. A call that is turned away brings
+/// nothing, and the others answer as if it had not been put.
+pub fn trace_answers(opening: &[u8], calls: &[Lent]) -> (Result<Kind, Refusal>, Vec<Answer>) {
+    let away = turned_away(opening, calls);
+    let both = || calls.iter().zip(&away);
+    let taken = taken(calls, &away);
+    let read = |body: &Body| read_traces(opening, body).expect("it was opened");
+    let given = if taken.is_empty() { Vec::new() } else { each_answer(&read, &taken) };
+    let mut given = given.into_iter();
+    let each = both().map(|(lent, away)| match away {
+        Some(refusal) => refused(&lent.call, refusal.clone()),
+        None => given.next().expect("an answer for each call that is taken"),
+    });
+    (open(opening), each.collect())
 }

@@ -1,8 +1,10 @@
 //! The lister's text for a whole reel image.
 
-use super::body::{open, read_body, Body, Kind, Report};
+use super::body::{open, Body, Kind, Report};
 use super::header::read_header;
-use super::{demand, refusal, Refusal, DEMUX, LARGE};
+use super::scans::read_scans;
+use super::traces::read_traces;
+use super::{refusal, Refusal, LARGE};
 
 /// The longest header item that is read.
 pub const LARGEST_HEADER: usize = 65_536;
@@ -35,17 +37,18 @@ fn files<'a>(items: &'a [&'a [u8]]) -> Vec<&'a [&'a [u8]]> {
     runs.filter(|run| !run.is_empty()).collect()
 }
 
-/// A file's closing report, or its refusal and the place that goes with it. Bodies
-/// of traces are not read yet: DEMUX, after the header's own refusals.
+/// A file's closing report, or its refusal and the place that goes with it.
 fn judge(file: &[&[u8]]) -> Result<Report, (Refusal, u64)> {
     let (block, blocks) = (file[0], &file[1..]);
     if block.len() > LARGEST_HEADER {
         return Err((refusal(LARGE), 0));
     }
-    let opened = open(block).and_then(|kind| demand(kind == Kind::Scans, DEMUX));
-    opened.map_err(|refusal| (refusal, 0))?;
     let body = Body { blocks: blocks.iter().map(|b| b.to_vec()).collect(), rest: Vec::new() };
-    let reading = read_body(block, &body).map_err(|refusal| (refusal, 0))?;
+    let reading = open(block).and_then(|kind| match kind {
+        Kind::Scans => read_scans(block, &body),
+        Kind::Traces => read_traces(block, &body),
+    });
+    let reading = reading.map_err(|refusal| (refusal, 0))?;
     let length = blocks.iter().map(|b| b.len() as u64).sum();
     let place = reading.stop.map_or(length, |stop| stop.place.into());
     reading.closing.map_err(|refusal| (refusal, place))

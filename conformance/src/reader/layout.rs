@@ -18,8 +18,15 @@ fn firsts(sets: &[Descriptor]) -> Vec<u64> {
     (0..sets.len()).map(|i| sets[..i].iter().map(set_samples).sum()).collect()
 }
 
-/// k: all of the earlier sets, then all of the earlier subscans of this set,
-/// then the earlier channels of this subscan.
+/// k of a sample that a scan type of these sets has: all of the earlier sets, then
+/// all of the earlier subscans of this set, then the earlier channels of this subscan.
+pub fn index_in(sets: &[Descriptor], set: u32, channel: u32, subscan: u32) -> u64 {
+    let i = set as usize - 1;
+    let inside = u64::from(subscan) * u64::from(sets[i].channels) + u64::from(channel - 1);
+    firsts(sets)[i] + inside
+}
+
+/// The question for k.
 pub fn sample_index(
     block: &[u8],
     scan_type: u32,
@@ -34,9 +41,7 @@ pub fn sample_index(
     let chosen = &sets[set as usize - 1];
     demand((1..=chosen.channels).contains(&channel), INDEX)?;
     demand(subscan < 2u32.pow(chosen.subscan_exponent), INDEX)?;
-    let first = firsts(&sets)[set as usize - 1];
-    let inside = u64::from(subscan) * u64::from(chosen.channels) + u64::from(channel - 1);
-    Ok((first + inside) as u32)
+    Ok(index_in(&sets, set, channel, subscan) as u32)
 }
 
 /// The set, channel and subscan whose sample is number k.
@@ -64,20 +69,57 @@ pub fn word_length(code: u16) -> u32 {
     letters(code).len() as u32 / 8
 }
 
-/// Where the word of sample k starts in its scan, from 0. Eight bytes come
-/// first. In 0015 each four samples are two bytes of exponents and four words.
-pub fn word_start(code: u16, k: u32) -> u32 {
+/// Bytes of the least run of whole samples: a word, or in 0015 and 8015 two bytes of
+/// exponents and four words.
+pub fn unit(code: u16) -> u64 {
     if grouped(code) {
-        8 + 10 * (k / 4) + 2 + 2 * (k % 4)
+        10
     } else {
-        8 + k * word_length(code)
+        word_length(code).into()
     }
 }
 
-/// In 0015, the byte in the scan that holds sample k's exponent, and whether it
-/// is the upper half. The four of a group stand in the order of the samples.
-pub fn exponent_start(code: u16, k: u32) -> Option<(u32, bool)> {
-    grouped(code).then(|| (8 + 10 * (k / 4) + k % 4 / 2, k.is_multiple_of(2)))
+/// Where the word of sample i starts, from where the samples of a scan or of a trace
+/// begin.
+pub fn word_offset(code: u16, i: u64) -> u64 {
+    if grouped(code) {
+        unit(code) * (i / 4) + 2 + 2 * (i % 4)
+    } else {
+        unit(code) * i
+    }
+}
+
+/// The place after the last byte of sample i's word, counted likewise.
+pub fn word_end(code: u16, i: u64) -> u64 {
+    word_offset(code, i) + u64::from(word_length(code))
+}
+
+/// In 0015 and 8015, the byte that holds sample i's exponent, counted likewise, and
+/// whether it is the upper half. The four of a group stand in the order of the samples.
+pub fn exponent_offset(code: u16, i: u64) -> Option<(u64, bool)> {
+    grouped(code).then(|| (unit(code) * (i / 4) + i % 4 / 2, i.is_multiple_of(2)))
+}
+
+/// How many words are whole in the first so many bytes of samples.
+pub fn whole_words(code: u16, bytes: u64) -> u64 {
+    if grouped(code) {
+        bytes / unit(code) * 4 + (bytes % unit(code)).saturating_sub(2) / 2
+    } else {
+        bytes / unit(code)
+    }
+}
+
+/// Whether so many bytes of samples are whole words, or whole groups of four.
+pub fn nothing_over(code: u16, bytes: u64) -> bool {
+    bytes.is_multiple_of(unit(code))
+}
+
+/// Bytes of a scan before its samples.
+pub const SCAN_START: u64 = 8;
+
+/// Where the word of sample k starts in its scan, from 0.
+fn word_start(code: u16, k: u32) -> u32 {
+    (SCAN_START + word_offset(code, k.into())) as u32
 }
 
 /// The byte place of sample k's word in a scan and its length, as a question.
@@ -108,7 +150,7 @@ pub fn external(block: &[u8]) -> Result<(usize, usize), Refusal> {
 
 /// One byte for each sample: after the scan type's descriptors if SK is not 0,
 /// else out of the sheet, which then has to be as long as all scan types need.
-fn skew_part(
+pub fn skew_part(
     header: &Header,
     sheet: &[u8],
     scan_type: u32,

@@ -5,11 +5,13 @@ pub mod calls;
 pub mod header;
 pub mod image;
 pub mod layout;
+pub mod scans;
+pub mod traces;
 pub mod words;
 
 pub const SHORT: u8 = 1;
 pub const FORMAT: u8 = 2;
-/// The lister's alone, until it reads bodies of traces.
+/// Answered by nothing that reads.
 pub const DEMUX: u8 = 3;
 pub const DIGIT: u8 = 4;
 pub const RANGE: u8 = 5;
@@ -31,10 +33,12 @@ pub const OPEN: u8 = 20;
 pub const MISSING: u8 = 21;
 pub const LARGE: u8 = 22;
 pub const STATE: u8 = 23;
+pub const TRACE: u8 = 24;
+pub const COUNT: u8 = 25;
 
 /// A row of the table of what is turned away, with the values its row names:
-/// 7 and 8 carry scan type and set, 9 the scan type, 14 to 18 the place of the
-/// stop, all others nothing.
+/// 7 and 8 carry scan type and set, 9 the scan type, 14 to 18, 24 and 25 the place
+/// of the stop, all others nothing. Where 8 is a stop, its place comes last.
 #[derive(Clone, Debug, PartialEq, Eq, Hash)]
 pub struct Refusal {
     pub number: u8,

@@ -41,18 +41,25 @@ use Rattle.agree.proofs.Bytes.{below, small}
 use Rattle.agree.proofs.Public.{portion-answer, room-answer, end-answer, runOf, read-fits, read-pieces, read-append}
 use Rattle.agree.proofs.Link.{planOf, scan-same, shape-same}
 
+-- ---- of any body
 -- two numbers for each sample
-twice : (f : ℕ → List ℤ) → ((i : ℕ) → length (f i) ≡ 2) → (n : ℕ) → length (listUpto f n) ≡ 2 * n
+pub twice : (f : ℕ → List ℤ) → ((i : ℕ) → length (f i) ≡ 2) → (n : ℕ) → length (listUpto f n) ≡ 2 * n
 unfolding upto
 twice f h zero = refl
 twice f h (suc n) = let r = twice f h n in rw (length-append, r, h n) (omega arith)
 
+pub by-stops : {u v u′ v′ : Fault} {a : Given} (n : ℕ) → u ≡ u′ → v ≡ v′ → a ≡ answerFrom u v n → a ≡ answerFrom u′ v′ n
+by-stops {u} {v} {u′} {v′} {a} n p q e = subst (λ (x : Fault). a ≡ answerFrom x v′ n) p (subst (λ (y : Fault). a ≡ answerFrom u y n) q e)
+
+pub bytes-more : (cs : List Call) (c : Call) → BytesIn cs → BytesIn (c ∷ []) → BytesIn (cs ++ (c ∷ []))
+bytes-more [] c h l = l
+bytes-more (put bs room ∷ cs) c h l = (h .0, bytes-more cs c (h .1) l)
+bytes-more (end ∷ cs) c h l = bytes-more cs c h l
+
+-- ---- of a body of scans
 samples-length : (sh : Shape) (d : Body) → length (numbersOf sh d) ≡ 2 * doneOf sh d
 unfolding numbersAt
 samples-length sh d = twice (numbersAt sh _) (λ i. refl) (doneOf sh d)
-
-by-stops : {u v u′ v′ : Fault} {a : Given} (n : ℕ) → u ≡ u′ → v ≡ v′ → a ≡ answerFrom u v n → a ≡ answerFrom u′ v′ n
-by-stops {u} {v} {u′} {v′} {a} n p q e = subst (λ (x : Fault). a ≡ answerFrom x v′ n) p (subst (λ (y : Fault). a ≡ answerFrom u y n) q e)
 
 module _ (b : List ℕ) (bytes : Bytes b) (clear : headerFault b ≡ Clear) (m : codeOf b < 0x8000) where
   opened-state : O.opened b .state ≡ O.fresh (headOf (planOf b))
@@ -94,11 +101,6 @@ module _ (b : List ℕ) (bytes : Bytes b) (clear : headerFault b ≡ Clear) (m :
   closes-at cs h = rw (fits cs) (at cs h .closes ∙ ap (λ (sh : Shape). closedOf (closing sh (bodyOf cs))) (sym (shape-same b clear m)))
 
   -- ---- each call's own answer
-  bytes-more : (cs : List Call) (c : Call) → BytesIn cs → BytesIn (c ∷ []) → BytesIn (cs ++ (c ∷ []))
-  bytes-more [] c h l = l
-  bytes-more (put bs room ∷ cs) c h l = (h .0, bytes-more cs c (h .1) l)
-  bytes-more (end ∷ cs) c h l = bytes-more cs c h l
-
   -- one call more
   then : (cs : List Call) (c : Call) → readingOf b (cs ++ (c ∷ [])) ≡ readOn (readingOf b cs) (c ∷ [])
   then cs c = read-append opening cs (c ∷ [])

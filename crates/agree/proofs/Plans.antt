@@ -1,7 +1,7 @@
 -- A body's plan: a shape whose scans are whole groups of the code's row. How the samples completed grow with each byte, and which value each has.
 -- Assumes nothing.
 use Prim.Native.Nat.{ℕ, suc, _+_, _-_, _*_, _/_, _%_, _≤_, _<_}
-use mathlib.Core.Path.{_≡_, refl, ap}
+use mathlib.Core.Path.{_≡_, ap, _∙_}
 use mathlib.Core.Bool.{Bool, true, false}
 use mathlib.Core.Logic.{_⊎_, inl, inr}
 use native.Mathlib.Nat.{mod-lt, div-lt-iff-lt-mul, zero-div, zero-mod, zero-sub, mul-div-cancel, mul-mod-left, mul-le-mul-right}
@@ -18,7 +18,8 @@ use Rattle.words.specs.Words.{valueOf}
 use Rattle.layout.specs.Places.{groupBytes}
 use Rattle.rules.specs.Scans.{Shape}
 use Rattle.rules.specs.Samples.{doneBefore, valueAt}
-use Rattle.rules.proofs.Counts.{ended, ended-is, large}
+use Rattle.rules.proofs.Counts as C
+use Rattle.rules.proofs.Counts.{wordsIn, ended, ended-is, large}
 
 pub record Plan : Type 0 where
   pub code : ℕ
@@ -86,42 +87,14 @@ module _ (k : Plan) (pos : 0 < width k) (some : 0 < per k) where
     more : lead k ≤ inGroup r → suc ((inGroup r - lead k) % width k) ≡ width k → samplesIn k j (suc r) ≡ suc (samplesIn k j r) → Grown j r
 
   pub grown : (j r : ℕ) → 8 ≤ r → Grown j r
-  grown j r l = by (ltb h (lead k)) refl
+  grown j r l = go (C.grown (per k) (lead k) (width k) pos some (r - 8))
     where
-      g : ℕ
-      g = (r - 8) / group k
+      ahead : samplesIn k j (suc r) ≡ j * samples k + wordsIn (per k) (lead k) (width k) (suc (r - 8))
+      ahead = let e : suc r - 8 ≡ suc (r - 8) = omega (arith, l) in rw e
 
-      h : ℕ
-      h = (r - 8) % group k
-
-      ahead : suc r - 8 ≡ suc (r - 8)
-      ahead = omega (arith, l)
-
-      count : Next (group k) (r - 8) → samplesIn k j (suc r) ≡ j * samples k + (g * per k + (suc h - lead k) / width k)
-      count (along d m u) = rw (ahead, d, m)
-      count (wrap d m u) =
-          let f : suc h - lead k ≡ per k * width k = omega (arith, u) in
-          rw (ahead, d, m, f, zero-sub (lead k), zero-div (width k), mul-div-cancel (per k) pos) (omega arith)
-
-      counted : samplesIn k j (suc r) ≡ j * samples k + (g * per k + (suc h - lead k) / width k)
-      counted = count (next (group k) (r - 8) wide)
-
-      by : (t : Bool) → ltb h (lead k) ≡ t → Grown j r
-      by true e =
-          let u : h < lead k = ltb-true h (lead k) e in
-          let m : suc h - lead k ≡ h - lead k = omega arith in
-          same (inl u) (rw (counted, m))
-      by false e = go (next (width k) (h - lead k) pos)
-        where
-          u : lead k ≤ h
-          u = ltb-false h (lead k) e
-
-          m : suc h - lead k ≡ suc (h - lead k)
-          m = omega (arith, u)
-
-          go : Next (width k) (h - lead k) → Grown j r
-          go (along d f x) = same (inr x) (rw (counted, m, d))
-          go (wrap d f x) = more u x (rw (counted, m, d) (omega arith))
+      go : C.Grown (per k) (lead k) (width k) pos some (r - 8) → Grown j r
+      go (C.same x e) = same x (ahead ∙ ap (λ (n : ℕ). j * samples k + n) e)
+      go (C.more x y e) = more x y (rw (ahead, e) (omega arith))
 
   -- the value of the sample that is then completed: of turn c in group g
   module _ (byte : ℕ → ℕ) where

@@ -19,7 +19,7 @@ use Rattle.refusals.specs.declared.Refusal.the-variants.{Block, Part, Open, Mis
 use Rattle.refusals.specs.declared.Fault.{Fault}
 use Rattle.refusals.specs.declared.Fault.the-variants.{Clear, At}
 use Rattle.refusals.specs.Order.{when, orElse}
-use Rattle.refusals.specs.Table.{said, stopRefusal}
+use Rattle.refusals.specs.Table.{said, stopPlace, stopRefusal}
 use Rattle.scan.specs.declared.State.{State}
 use Rattle.scan.specs.declared.Stepped.{Stepped}
 use Rattle.scan.specs.Step as S
@@ -37,7 +37,7 @@ use Rattle.body.specs.declared.Closing as B
 use Rattle.rules.specs.Tape.{Body, ends, startOf, size, byteAt}
 use Rattle.rules.specs.Scans.{Shape}
 use Rattle.rules.specs.Faults.{byteFault, endFault}
-use Rattle.rules.specs.Outcome.{Report, Closing, refused, report, answered, stopPlace, stopOf, numbersOf, reportOf, closing, lastType, firstItb, firstWindow}
+use Rattle.rules.specs.Outcome.{Report, Closing, refused, report, answered, stopOf, numbersOf, reportOf, closing, lastType, firstItb, firstWindow}
 use Rattle.refusals.proofs.Clears.{clear-at}
 use Rattle.rules.proofs.Tapes.{size-last}
 use Rattle.rules.proofs.Laws.{Halts, long, block, sync, timing, phase, halts-at, byte-halts, end-halts, stop-halts}
@@ -91,7 +91,7 @@ again sync = refl
 again timing = refl
 again phase = refl
 
-same-at : {r q : Refusal} → At r ≡ At q → r ≡ q
+pub same-at : {r q : Refusal} → At r ≡ At q → r ≡ q
 same-at e = cc
 
 -- the stop that a state keeps
@@ -168,16 +168,16 @@ module _ (k : Plan) (sized : Sizes k) (typed : 1 ≤ k .types) (d : Body) (small
   follows : Follows stepOf emitOf endOf (byteFault (shapeIn k) (byteAt d)) (endFault (shapeIn k) (byteAt d)) d (form (byteAt d) k) halted out (Inv (byteAt d) k)
   follows =
       record {
-        byte-on = λ i s p h e. on-state i s p e (hop i s p h);
-        byte-out = λ i s p h e. on-out i s p e (hop i s p h);
-        byte-inv = λ i s p h e. inv-next (byteAt d) k i s p h e;
-        byte-off = λ i s p r h e. off-state i s p r e (hop i s p h);
-        byte-none = λ i s p r h e. off-out i s p r e (hop i s p h);
+        byte-on = λ i s p a h e. on-state i s p e (hop i s p h);
+        byte-out = λ i s p a h e. on-out i s p e (hop i s p h);
+        byte-inv = λ i s p a h e. inv-next (byteAt d) k i s p h e;
+        byte-off = λ i s p r a h e. off-state i s p r e (hop i s p h);
+        byte-none = λ i s p r a h e. off-out i s p r e (hop i s p h);
         byte-place = λ i s p r e. halts-at (byte-halts (shapeIn k) (byteAt d) i s p r e);
         byte-still = λ i s p r e. stays i p p r (byte-halts (shapeIn k) (byteAt d) i s p r e);
-        end-on = λ i s p h e. end-on i s p (h .begun) e;
-        end-inv = λ i s p h e. inv-end (byteAt d) k i s p h e;
-        end-off = λ i s p r h e. end-off i s p r (h .begun) e;
+        end-on = λ i s p a h e. end-on i s p (h .begun) e;
+        end-inv = λ i s p a h e. inv-end (byteAt d) k i s p h e;
+        end-off = λ i s p r a h e. end-off i s p r (h .begun) e;
         end-place = λ i s p r e. halts-at (end-halts (shapeIn k) (byteAt d) i s p r e);
         end-still = λ i s p r e. stays i p p r (end-halts (shapeIn k) (byteAt d) i s p r e);
       }
@@ -291,7 +291,7 @@ module _ (k : Plan) (sized : Sizes k) (typed : 1 ≤ k .types) (d : Body) (small
             stops = sym f;
             closes = finish-same (ends d) (startOf d (ends d)) (h .begun) (size-last d) f;
           })
-      go (fell r i f c) = rw c (record { samples = rw (f, before-is k (sized .wide) (sized .some) (byteAt d) (stopPlace r)); stops = halted-stop (form (byteAt d) k i (stopPlace r)) r (stop-halts (shapeIn k) d r f) ∙ sym f; closes = halted-finish (form (byteAt d) k i (stopPlace r)) r (stop-halts (shapeIn k) d r f) ∙ (unfold closing in (rw f)) })
+      go (fell r i g f c) = rw c (record { samples = rw (f, before-is k (sized .wide) (sized .some) (byteAt d) (stopPlace r)); stops = halted-stop (form (byteAt d) k i (stopPlace r)) r (stop-halts (shapeIn k) d r f) ∙ sym f; closes = halted-finish (form (byteAt d) k i (stopPlace r)) r (stop-halts (shapeIn k) d r f) ∙ (unfold closing in (rw f)) })
 
 -- the same for a body that is handed over in pieces
 pub agree-pieces : (k : Plan) (sized : Sizes k) (typed : 1 ≤ k .types) (es : List Piece) (small : (p : ℕ) → byteAt (spelled es) p < 256)

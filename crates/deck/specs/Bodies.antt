@@ -19,6 +19,7 @@ use Rattle.body.specs.declared.Window.the-variants as window
 use Rattle.body.specs.declared.Closed.{Closed}
 use Rattle.body.specs.declared.Closed.the-variants as closed
 use Rattle.body.specs.declared.Closing.{Closing}
+use Rattle.trace.specs.declared.State as trace
 use Rattle.deck.specs.declared.bodies.SegdOpened.{SegdOpened}
 use Rattle.deck.specs.declared.bodies.SegdGave.{SegdGave}
 use Rattle.deck.specs.declared.bodies.SegdClosing.{SegdClosing}
@@ -36,9 +37,9 @@ kindOf opening.Scans = 1
 kindOf opening.Traces = 2
 kindOf (opening.Refused r) = 0
 
--- an opening, with its state
-abbrev pub flatOpened : Opened → SegdOpened
-flatOpened o = record { refusal = flatOpening (o .answer); kind = kindOf (o .answer); state = o .state }
+-- an opening, with its state, and the state of a body of traces
+abbrev pub flatOpened : Opened → trace.State → SegdOpened
+flatOpened o traces = record { refusal = flatOpening (o .answer); kind = kindOf (o .answer); state = o .state; traces = traces }
 
 -- 0 going on, 1 stopped, 2 refused
 abbrev pub outcomeOf : Answer → ℕ

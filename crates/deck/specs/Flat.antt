@@ -23,7 +23,7 @@ flag t = pick t 1 0
 
 -- no refusal: the number 0, which no row has
 abbrev pub unrefused : Told
-unrefused = record { number = 0; first = 0; second = 0 }
+unrefused = record { number = 0; first = 0; second = 0; third = 0 }
 
 -- a refusal, if there is one
 abbrev pub flatFault : Fault → Told

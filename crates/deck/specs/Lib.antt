@@ -2,3 +2,4 @@ pub mod Flat
 pub mod Headers
 pub mod Places
 pub mod Bodies
+pub mod Traces

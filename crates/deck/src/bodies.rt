@@ -1,14 +1,17 @@
-// The body of a record, streamed. The state is a struct of numbers that the caller keeps and hands in again.
+// The opening of a body of either kind, and a body of scans, streamed. The state is a struct of numbers that the caller keeps and hands in again.
+// What a call answers and what a closing reports is laid flat here for both kinds.
 ghost use mathlib.Core.Path.{_≡_};
 ghost use lib.ListN.{length};
 ghost use Rattle.runs.specs.Runs.{over};
 ghost use Rattle.body.specs.Open.{opened};
 ghost use Rattle.stream.specs.Calls.{samplesTold, portion, portionWrote};
 ghost use Rattle.body.specs.Ends.{blockEnd, close};
+ghost use Rattle.trace_body.specs.Open as traces;
 ghost use Rattle.deck.specs.Bodies.{flatOpened, flatAnswer, outcomeOf, answerFault, flatGave, flatClosing, itbKnown, itbBit, windowKnown, windowAt};
 use crate::flat_fault;
 use crate::unrefused;
 use body::Closed;
+use body::Closing;
 use body::Itb;
 use body::Opening;
 use body::Window;
@@ -18,19 +21,22 @@ use scan::State;
 use stream::Answer;
 use stream::Gave;
 
-// 1: a body of scans, and the state before its first byte; 2: one of traces; 0: the header's refusal. With 2 and 0 every call refuses the state.
+// 1: a body of scans, 2: one of traces, and the state before its first byte; 0: the header's refusal. The state of the other kind, or with 0 of
+// both, is all 0, which every call refuses.
 #[repr(C)]
 pub struct SegdOpened {
     pub refusal: Told,
     pub kind: u8,
     pub state: State,
+    pub traces: trace::State,
 }
 
 #[no_mangle]
 pub extern "C" fn segd_open(block: &[u8]) -> SegdOpened
-    ensures { λ r. ⌜ r ≡ flatOpened (opened (now (block .entry))) ⌝ }
+    ensures { λ r. ⌜ r ≡ flatOpened (opened (now (block .entry))) (traces.opened (now (block .entry))) ⌝ }
 {
     let opened = body::open(block);
+    let traces = trace_body::open(block);
     let answer = opened.answer;
     let state = opened.state;
     match answer {
@@ -38,16 +44,19 @@ pub extern "C" fn segd_open(block: &[u8]) -> SegdOpened
             refusal: unrefused(),
             kind: 1,
             state,
+            traces,
         },
         Opening::Traces => SegdOpened {
             refusal: unrefused(),
             kind: 2,
             state,
+            traces,
         },
         Opening::Refused(r) => SegdOpened {
             refusal: refusals::tell(r),
             kind: 0,
             state,
+            traces,
         },
     }
 }
@@ -61,7 +70,7 @@ pub struct SegdGave {
     pub samples: u64,
 }
 
-fn outcome(answer: Answer) -> u32
+pub(crate) fn outcome(answer: Answer) -> u32
     ensures { λ r. ⌜ r ≡ outcomeOf answer ⌝ }
 {
     match answer {
@@ -74,7 +83,7 @@ fn outcome(answer: Answer) -> u32
     }
 }
 
-fn answer_fault(answer: Answer) -> Fault
+pub(crate) fn answer_fault(answer: Answer) -> Fault
     ensures { λ r. ⌜ r ≡ answerFault answer ⌝ }
 {
     match answer {
@@ -87,7 +96,7 @@ fn answer_fault(answer: Answer) -> Fault
     }
 }
 
-fn samples_told(answer: Answer) -> u64
+pub(crate) fn samples_told(answer: Answer) -> u64
     ensures { λ r. ⌜ r ≡ samplesTold answer ⌝ }
 {
     match answer {
@@ -189,13 +198,12 @@ fn why(answer: Closed) -> Told
     }
 }
 
-#[no_mangle]
-pub extern "C" fn segd_close(state: State) -> SegdClosing
-    ensures { λ r. ⌜ r ≡ flatClosing (close state) ⌝ }
+// By parts, as above.
+pub(crate) fn closing(c: Closing) -> SegdClosing
+    ensures { λ r. ⌜ r ≡ flatClosing c ⌝ }
 {
-    let closing = body::close(state);
-    let answer = closing.answer;
-    let report = closing.report;
+    let answer = c.answer;
+    let report = c.report;
     let itb = report.itb;
     let window = report.window;
     SegdClosing {
@@ -209,4 +217,11 @@ pub extern "C" fn segd_close(state: State) -> SegdClosing
         window_known: window_known(window),
         window: window_at(window),
     }
+}
+
+#[no_mangle]
+pub extern "C" fn segd_close(state: State) -> SegdClosing
+    ensures { λ r. ⌜ r ≡ flatClosing (close state) ⌝ }
+{
+    closing(body::close(state))
 }

@@ -13,6 +13,7 @@ use words::Word;
 pub mod bodies;
 pub mod headers;
 pub mod places;
+pub mod traces;
 
 // 1 where the test holds, else 0.
 fn flag_of(t: bool) -> u8
@@ -29,6 +30,7 @@ fn unrefused() -> Told
         number: 0,
         first: 0,
         second: 0,
+        third: 0,
     }
 }
 

@@ -2,13 +2,12 @@
 -- Assumes nothing.
 use Prim.Native.Nat.{ℕ, _+_, _-_, _*_, _/_, _%_, _^_, _<_}
 use mathlib.Core.Path.{_≡_, refl, subst}
-use mathlib.Core.Bool.{true, false, not}
+use mathlib.Core.Bool.{true, not}
 use mathlib.Core.List.{List}
 use native.Mathlib.Nat.{zero-add}
 use native.Mathlib.Omega.{arith}
 use lib.Dec.{ltb}
-use lib.ListN.{length}
-use borrow.Author.Tests.{lt-ltb, ltb-true, eq-eqb}
+use borrow.Author.Tests.{lt-ltb, ltb-true}
 use Rattle.basis.specs.Choice.{pick}
 use Rattle.basis.proofs.FieldLaws.{last-back, fraction-back, exponent-back, sign-back, rejoined}
 use Rattle.values.proofs.Laws.{same-refl, same-sym, same-trans, same-shift, same-tested, same-told, less-tested, less-told, less-irrefl, less-trans, same-less, less-level, total}
@@ -47,41 +46,26 @@ use Rattle.rules.specs.Scans.{Shape}
 use Rattle.rules.specs.Samples.{numbersAt}
 use Rattle.rules.specs.Outcome.{doneOf}
 use Rattle.rules.proofs.Laws.{stop-first}
-use Rattle.scan.specs.declared.State.{State}
-use Rattle.scan.specs.Fit.{fitb}
-use Rattle.stream.specs.Calls.{portion, fitPortion, portionWrote, fitWrote, unchanged}
-use Rattle.body.specs.Ends.{blockEnd, close, refused as refusedBy, nothing as noReport}
 use Rattle.agree.proofs.Agreement.{agreement, turned-away, no-scans}
 use Rattle.framing.proofs.Framed.{framed}
 use Rattle.lister.proofs.Listed.{listed}
-use Rattle.demands.specs.Demand1.{Unmoved, NoTrace, Demand1}
+use Rattle.trace_demands.proofs.Scans.{stopping, portions}
+use Rattle.trace_demands.proofs.Samples.{pairs-length, pair-at}
+use Rattle.trace_demands.proofs.TraceDemands.{trace-demand1, trace-demand2, trace-demand3}
+use Rattle.demands.specs.Demand1.{Demand1}
 use Rattle.demands.specs.Demand2.{OwnBytes, Compared, Cut, Askable, Demand2}
 use Rattle.demands.specs.Demand3.{InOrder, Demand3}
 use Rattle.demands.specs.Reel.{Reel}
-use Rattle.demands.proofs.Numbers.{numbers, three}
+use Rattle.demands.proofs.Numbers.{numbers, four}
 use Rattle.demands.proofs.Uniques.{unique}
 use Rattle.demands.proofs.Helds.{unique-held}
 use Rattle.demands.proofs.Bounds.{bound}
 use Rattle.demands.proofs.BoundHelds.{bound-held}
-use Rattle.demands.proofs.Stopping.{stays, stays-after-portion, stays-after-end}
-use Rattle.demands.proofs.Pairs.{pairs-length, pair-at}
-use Rattle.demands.proofs.Outputs.{two-are-one, output}
 use Rattle.demands.proofs.Owed.{owed}
 use Rattle.demands.proofs.Handed.{external-next, external-last, skew-bytes}
 use Rattle.demands.proofs.Figures.{all-figures}
 
 -- ---- 1
-unmoved : (s : State) → fitb s ≡ false → Unmoved s
-unfolding portion portionWrote unchanged blockEnd close refusedBy noReport pick
-unmoved s f = record { portions = λ bs room. rw f; writes = λ bs room. rw f; blockEnds = rw f; closes = rw f }
-
-no-room : (s : State) (bs : List ℕ) (room : ℕ) → fitb s ≡ true → s .stop ≡ 0 → room < 2 * length bs → NoTrace s bs room
-unfolding portion fitPortion portionWrote fitWrote unchanged pick
-no-room s bs room f z l = record {
-  answer = rw (f, eq-eqb (s .stop) 0 z, lt-ltb room (2 * length bs) l);
-  writes = rw (f, eq-eqb (s .stop) 0 z, lt-ltb room (2 * length bs) l);
-}
-
 pub demand1 : Demand1
 demand1 = record {
   one = unique;
@@ -89,16 +73,13 @@ demand1 = record {
   bound = bound;
   bound-held = bound-held;
   numbers = numbers;
-  three = three;
-  stays-after-portion = stays-after-portion;
-  stays-after-end = stays-after-end;
-  stopped = stays;
-  unfit = unmoved;
+  four = four;
+  stopping = stopping;
   unopened = turned-away;
   unscanned = no-scans;
   shut = open-unfit;
   told = stop-said;
-  room = no-room;
+  traces = trace-demand1;
 }
 
 -- ---- 2
@@ -220,6 +201,7 @@ demand2 = record {
   timed = λ b sheet t k T a l. rw (a .accepted, a .there, lt-ltb T (2 ^ 24) l, a .sheeted);
   sampleTimes = time-asked;
   starred = all-figures;
+  traces = trace-demand2;
 }
 
 -- ---- 3
@@ -242,11 +224,11 @@ in-order sh d = record {
 pub demand3 : Demand3
 demand3 = record {
   agrees = agreement;
-  cuts = two-are-one;
-  seen = output;
+  portions = portions;
   owed = owed;
   order = in-order;
   first = stop-first;
+  traces = trace-demand3;
 }
 
 -- ---- the lister

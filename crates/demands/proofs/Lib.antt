@@ -3,9 +3,6 @@ pub mod Uniques
 pub mod Helds
 pub mod Bounds
 pub mod BoundHelds
-pub mod Stopping
-pub mod Pairs
-pub mod Outputs
 pub mod Owed
 pub mod Handed
 pub mod Figures

@@ -4,7 +4,7 @@ use mathlib.Core.Path.{_≡_, refl, ap}
 use Rattle.refusals.specs.declared.Refusal.{Refusal}
 use Rattle.refusals.specs.declared.Refusal.the-variants as refusal
 use Rattle.refusals.specs.Table.{said, told}
-use Rattle.demands.specs.Numbers.{numbered, inThree}
+use Rattle.demands.specs.Numbers.{numbered, inFour}
 
 pub numbers : (r : Refusal) → said r ≡ numbered r
 numbers refusal.Short = refl
@@ -30,6 +30,9 @@ numbers refusal.Open = refl
 numbers refusal.Missing = refl
 numbers refusal.Large = refl
 numbers refusal.State = refl
+numbers (refusal.FourAt a b c) = refl
+numbers (refusal.Trace a) = refl
+numbers (refusal.Count a) = refl
 
-pub three : (r : Refusal) → told r ≡ inThree (numbered r)
-three r = ap inThree (numbers r)
+pub four : (r : Refusal) → told r ≡ inFour (numbered r)
+four r = ap inFour (numbers r)

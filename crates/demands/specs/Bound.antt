@@ -5,6 +5,7 @@ use Prim.Native.Nat.{ℕ, _+_, _*_}
 use mathlib.Core.Path.{_≡_}
 use mathlib.Core.List.{List}
 use lib.Dec.{leb}
+use lib.IntN.{ℤ}
 use lib.ListN.{length}
 use lib.Seq.{sets}
 use denote.Ref.{RefT}
@@ -22,6 +23,12 @@ use Rattle.skew.specs.Times.{timeAnswer}
 use Rattle.body.specs.Open.{opened}
 use Rattle.stream.specs.Calls.{portion}
 use Rattle.body.specs.Ends.{blockEnd, close}
+use Rattle.runs.specs.Runs.{over}
+use Rattle.turns.specs.Places.{placedAt}
+use Rattle.trace.specs.declared.State as trace
+use Rattle.trace_stream.specs.Calls as traces
+use Rattle.trace_body.specs.Calls as trace-ends
+use Rattle.trace_body.specs.Open as trace-opening
 use Rattle.framing.specs.Next.{endingOf, nextOf}
 use Rattle.listing.specs.Lines.{lineOf, lastOf}
 use Rattle.listing.specs.Lent.{lineIn, lineEnd, storedIn}
@@ -30,6 +37,7 @@ use Rattle.deck.specs.Flat.{flatFormat, flatWord}
 use Rattle.deck.specs.Headers.{flatPair, flatHeader, flatSet}
 use Rattle.deck.specs.Places.{flatIndex, flatPlace, flatPart, flatSkew, flatByte, flatTime}
 use Rattle.deck.specs.Bodies.{flatOpened, flatGave, flatClosing}
+use Rattle.deck.specs.Traces.{flatTraceGave, flatTracePlace}
 use Rattle.block.proofs.packed.Reads as block-packed
 use Rattle.words.proofs.read_word.Reads as words-read-word
 use Rattle.header.proofs.read_header.Reads as header-read-header
@@ -49,6 +57,11 @@ use Rattle.body.proofs.open.Reads as body-open
 use Rattle.stream.proofs.portion.Reads as stream-portion
 use Rattle.body.proofs.block_end.Reads as body-block-end
 use Rattle.body.proofs.close.Reads as body-close
+use Rattle.turns.proofs.place.Reads as turns-place
+use Rattle.trace_stream.proofs.portion.Reads as trace-stream-portion
+use Rattle.trace_body.proofs.open.Reads as trace-body-open
+use Rattle.trace_body.proofs.block_end.Reads as trace-body-block-end
+use Rattle.trace_body.proofs.close.Reads as trace-body-close
 use Rattle.framing.proofs.next.Reads as framing-next
 use Rattle.framing.proofs.close.Reads as framing-close
 use Rattle.listing.proofs.record_line.Reads as listing-record-line
@@ -74,6 +87,10 @@ use Rattle.deck.proofs.bodies.segd_open.Reads as deck-segd-open
 use Rattle.deck.proofs.bodies.segd_portion.Reads as deck-segd-portion
 use Rattle.deck.proofs.bodies.segd_block_end.Reads as deck-segd-block-end
 use Rattle.deck.proofs.bodies.segd_close.Reads as deck-segd-close
+use Rattle.deck.proofs.traces.segd_trace_portion.Reads as deck-segd-trace-portion
+use Rattle.deck.proofs.traces.segd_trace_end.Reads as deck-segd-trace-end
+use Rattle.deck.proofs.traces.segd_trace_close.Reads as deck-segd-trace-close
+use Rattle.deck.proofs.traces.segd_trace_place.Reads as deck-segd-trace-place
 use Rattle.demands.specs.One.{Contract}
 use Rattle.demands.specs.Demand3.{outputOf}
 
@@ -109,6 +126,10 @@ fourth a = a .1 .1 .1 .0
 abbrev pub fifth : {A B C D E F : Type 0} → A × (B × (C × (D × (E × F)))) → E
 fifth a = a .1 .1 .1 .1 .0
 
+-- what a portion of a trace body leaves in the caller's output: what it wrote, over its front
+abbrev pub traceOutput : List ℕ → trace.State → List ℕ → List ℤ → List ℤ
+traceOutput b s bs out = over (traces.portionWrote b s bs (length out)) out
+
 pub record Bound : Type 0 where
   -- the questions about pairs, words and header blocks
   pub packed : Is block-packed.Post (λ κ a. packedOf (first a))
@@ -135,6 +156,13 @@ pub record Bound : Type 0 where
   pub output : Leaves stream-portion.Post (λ κ e. third e .now) (λ κ a. outputOf (first a) (second a .now) (third a .now))
   pub block-ends : Is body-block-end.Post (λ κ a. blockEnd (first a))
   pub closes : Is body-close.Post (λ κ a. close (first a))
+  -- a body of traces, with the header block lent again; and whose a sample of a trace is
+  pub trace-opens : Is trace-body-open.Post (λ κ a. trace-opening.opened (first a .now))
+  pub trace-portions : Is trace-stream-portion.Post (λ κ a. traces.portion (first a .now) (second a) (third a .now) (length (fourth a .now)))
+  pub trace-output : Leaves trace-stream-portion.Post (λ κ e. fourth e .now) (λ κ a. traceOutput (first a .now) (second a) (third a .now) (fourth a .now))
+  pub trace-block-ends : Is trace-body-block-end.Post (λ κ a. trace-ends.blockEnd (first a .now) (second a))
+  pub trace-closes : Is trace-body-close.Post (λ κ a. trace-ends.close (first a .now) (second a))
+  pub trace-places : Is turns-place.Post (λ κ a. placedAt (first a .now) (second a) (third a))
   -- the same for a deck, laid flat
   pub segd-format : Is deck-segd-format.Post (λ κ a. flatFormat (rowOf (first a)))
   pub segd-packed : Is deck-segd-packed.Post (λ κ a. flatPair (packedOf (first a)))
@@ -151,11 +179,18 @@ pub record Bound : Type 0 where
   pub segd-skew : Is deck-segd-skew.Post (λ κ a. flatSkew (skewFault (first a .now) (second a .now) (third a)) (first a .now) (third a))
   pub segd-skew-at : Is deck-segd-skew-at.Post (λ κ a. flatByte (skewAnswer (first a .now) (second a .now) (third a) (fourth a)))
   pub segd-sample-time : Is deck-segd-sample-time.Post (λ κ a. flatTime (timeAnswer (first a .now) (second a .now) (third a) (fourth a) (fifth a)))
-  pub segd-open : Is deck-segd-open.Post (λ κ a. flatOpened (opened (first a .now)))
+  pub segd-open : Is deck-segd-open.Post (λ κ a. flatOpened (opened (first a .now)) (trace-opening.opened (first a .now)))
   pub segd-portion : Is deck-segd-portion.Post (λ κ a. flatGave (portion (first a) (second a .now) (length (third a .now))))
   pub segd-output : Leaves deck-segd-portion.Post (λ κ e. third e .now) (λ κ a. outputOf (first a) (second a .now) (third a .now))
   pub segd-block-end : Is deck-segd-block-end.Post (λ κ a. flatGave (blockEnd (first a)))
   pub segd-close : Is deck-segd-close.Post (λ κ a. flatClosing (close (first a)))
+  pub segd-trace-portion : Is deck-segd-trace-portion.Post
+      (λ κ a. flatTraceGave (traces.portion (first a .now) (second a) (third a .now) (length (fourth a .now))))
+  pub segd-trace-output : Leaves deck-segd-trace-portion.Post (λ κ e. fourth e .now)
+      (λ κ a. traceOutput (first a .now) (second a) (third a .now) (fourth a .now))
+  pub segd-trace-end : Is deck-segd-trace-end.Post (λ κ a. flatTraceGave (trace-ends.blockEnd (first a .now) (second a)))
+  pub segd-trace-close : Is deck-segd-trace-close.Post (λ κ a. flatClosing (trace-ends.close (first a .now) (second a)))
+  pub segd-trace-place : Is deck-segd-trace-place.Post (λ κ a. flatTracePlace (placedAt (first a .now) (second a) (third a)))
   -- the image: a step over it, and its ending
   pub next : Is framing-next.Post (λ κ a. nextOf (first a) (second a .now) (third a))
   pub ending : Is framing-close.Post (λ κ a. endingOf (first a))

@@ -36,6 +36,7 @@ use Rattle.parts.specs.Slices.{slice}
 use Rattle.parts.specs.Parts.{extendedPlace, externalPlace}
 use Rattle.skew.specs.Skews.{skewByte, sheetHolds, skewFault, skewPart, skewAnswer}
 use Rattle.skew.specs.Times.{timeBy, timeAnswer}
+use Rattle.trace_demands.specs.TraceDemand2.{TraceDemand2}
 use Rattle.demands.specs.Figures.{All, figures}
 
 -- a word joined of S, c, Q and the bits not used, as a row has them; and that a word has them
@@ -130,3 +131,5 @@ pub record Demand2 : Type 0 where
       Askable b sheet t k × (T < 2 ^ 24) × (time ≡ timeBy T (skewByte b sheet (t - 1) k) (intervalOf b))
   -- the starred figures: among them a header that is accepted, and samples that have their places
   pub starred : All figures
+  -- the same of a body of traces
+  pub traces : TraceDemand2

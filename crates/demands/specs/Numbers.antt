@@ -40,7 +40,11 @@ numbered refusal.Open = no 20 []
 numbered refusal.Missing = no 21 []
 numbered refusal.Large = no 22 []
 numbered refusal.State = no 23 []
+-- of a trace body: "both stop, as FOUR does", 8 with the trace's scan type and set, and then its place; "24 TRACE at the first wrong trace header byte"; "25 COUNT at a block end"
+numbered (refusal.FourAt place scanType set) = no 8 (scanType ∷ set ∷ place ∷ [])
+numbered (refusal.Trace place) = no 24 (place ∷ [])
+numbered (refusal.Count place) = no 25 (place ∷ [])
 
--- a row as three numbers, which the calls answer and the lister prints: its number, the first value that it names and the second, and 0 where it names none
-abbrev pub inThree : Said → Told
-inThree s = record { number = s .number; first = getD (s .values) 0 0; second = getD (s .values) 1 0 }
+-- a row as four numbers, which the calls answer: its number and the first, second and third value that it names, and 0 where it names none
+abbrev pub inFour : Said → Told
+inFour s = record { number = s .number; first = getD (s .values) 0 0; second = getD (s .values) 1 0; third = getD (s .values) 2 0 }

@@ -66,6 +66,21 @@ use Rattle.body.proofs.open.Reads as body-open
 use Rattle.stream.proofs.portion.Reads as stream-portion
 use Rattle.body.proofs.block_end.Reads as body-block-end
 use Rattle.body.proofs.close.Reads as body-close
+use Rattle.turns.proofs.trace_count.Reads as turns-trace-count
+use Rattle.turns.proofs.turn_at.Reads as turns-turn-at
+use Rattle.turns.proofs.subscans_at.Reads as turns-subscans-at
+use Rattle.turns.proofs.skew_at.Reads as turns-skew-at
+use Rattle.turns.proofs.place.Reads as turns-place
+use Rattle.trace.proofs.fits.Reads as trace-fits
+use Rattle.trace.proofs.look_at.Reads as trace-look-at
+use Rattle.trace.proofs.halted.Reads as trace-halted
+use Rattle.trace.proofs.stop_of.Reads as trace-stop-of
+use Rattle.trace.proofs.answered.Reads as trace-answered
+use Rattle.trace.proofs.unchanged.Reads as trace-unchanged
+use Rattle.trace_stream.proofs.portion.Reads as trace-stream-portion
+use Rattle.trace_body.proofs.open.Reads as trace-body-open
+use Rattle.trace_body.proofs.block_end.Reads as trace-body-block-end
+use Rattle.trace_body.proofs.close.Reads as trace-body-close
 use Rattle.view.proofs.place_in.Reads as view-place-in
 use Rattle.framing.proofs.close.Reads as framing-close
 use Rattle.framing.proofs.next.Reads as framing-next
@@ -82,6 +97,10 @@ use Rattle.deck.proofs.bodies.segd_open.Reads as deck-segd-open
 use Rattle.deck.proofs.bodies.segd_portion.Reads as deck-segd-portion
 use Rattle.deck.proofs.bodies.segd_block_end.Reads as deck-segd-block-end
 use Rattle.deck.proofs.bodies.segd_close.Reads as deck-segd-close
+use Rattle.deck.proofs.traces.segd_trace_portion.Reads as deck-segd-trace-portion
+use Rattle.deck.proofs.traces.segd_trace_end.Reads as deck-segd-trace-end
+use Rattle.deck.proofs.traces.segd_trace_close.Reads as deck-segd-trace-close
+use Rattle.deck.proofs.traces.segd_trace_place.Reads as deck-segd-trace-place
 use Rattle.deck.proofs.headers.segd_packed.Reads as deck-segd-packed
 use Rattle.deck.proofs.headers.segd_read_header.Reads as deck-segd-read-header
 use Rattle.deck.proofs.headers.segd_descriptor.Reads as deck-segd-descriptor
@@ -170,6 +189,22 @@ pub record Unique : Type 0 where
   pub portion-content : OneContent stream-portion.Post (λ κ e. e .1 .1 .0 .now)
   pub block-end : OneAnswer body-block-end.Post
   pub body-close : OneAnswer body-close.Post
+  pub trace-count : OneAnswer turns-trace-count.Post
+  pub turn-at : OneAnswer turns-turn-at.Post
+  pub subscans-at : OneAnswer turns-subscans-at.Post
+  pub trace-skew-at : OneAnswer turns-skew-at.Post
+  pub trace-place : OneAnswer turns-place.Post
+  pub trace-fits : OneAnswer trace-fits.Post
+  pub look-at : OneAnswer trace-look-at.Post
+  pub halted : OneAnswer trace-halted.Post
+  pub stop-of : OneAnswer trace-stop-of.Post
+  pub answered : OneAnswer trace-answered.Post
+  pub unchanged : OneAnswer trace-unchanged.Post
+  pub trace-portion : OneAnswer trace-stream-portion.Post
+  pub trace-portion-content : OneContent trace-stream-portion.Post (λ κ e. e .1 .1 .1 .0 .now)
+  pub trace-open : OneAnswer trace-body-open.Post
+  pub trace-end : OneAnswer trace-body-block-end.Post
+  pub trace-close : OneAnswer trace-body-close.Post
   pub place-in : OneAnswer view-place-in.Post
   pub framing-close : OneAnswer framing-close.Post
   pub framing-next : OneAnswer framing-next.Post
@@ -196,6 +231,11 @@ pub record Unique : Type 0 where
   pub segd-portion-content : OneContent deck-segd-portion.Post (λ κ e. e .1 .1 .0 .now)
   pub segd-block-end : OneAnswer deck-segd-block-end.Post
   pub segd-close : OneAnswer deck-segd-close.Post
+  pub segd-trace-portion : OneAnswer deck-segd-trace-portion.Post
+  pub segd-trace-portion-content : OneContent deck-segd-trace-portion.Post (λ κ e. e .1 .1 .1 .0 .now)
+  pub segd-trace-end : OneAnswer deck-segd-trace-end.Post
+  pub segd-trace-close : OneAnswer deck-segd-trace-close.Post
+  pub segd-trace-place : OneAnswer deck-segd-trace-place.Post
   pub segd-packed : OneAnswer deck-segd-packed.Post
   pub segd-read-header : OneAnswer deck-segd-read-header.Post
   pub segd-descriptor : OneAnswer deck-segd-descriptor.Post

@@ -1,5 +1,8 @@
 pub mod Items
-pub mod Reader
-pub mod Places
+pub mod Blocks
+pub mod Scans
+pub mod Traces
+pub mod ScanPlaces
+pub mod TracePlaces
 pub mod Closes
 pub mod Form

@@ -13,6 +13,7 @@ use Rattle.header.specs.Answers.{headerAnswer}
 use Rattle.rules.specs.Tape.{Body}
 use Rattle.rules.specs.Scans.{shapeOf}
 use Rattle.rules.specs.Outcome.{Closing, report, refused, closing}
+use Rattle.trace_rules.specs.Outcome as T
 use Rattle.framing.specs.Cuts.{joined}
 use Rattle.listing.specs.declared.Outcome.{Outcome}
 use Rattle.listing.specs.declared.Outcome.the-variants as O
@@ -26,21 +27,16 @@ abbrev pub reported : ℕ → ℕ → ℕ → Closing → Outcome
 reported file format bytes (report t) = O.Listed file format (t .scans) (t .samples) (t .off)
 reported file format bytes (refused r) = O.Refused r bytes
 
--- bodies of scans are listed: a file whose header is accepted and of an 80xx code is DEMUX
-abbrev pub ofScans : Answer → Answer
-ofScans (Refused r) = Refused r
-ofScans (Accepted h) = pick (demultiplexed (h .code)) (Refused R.Demux) (Accepted h)
-
--- what is said to a file's header item
-abbrev pub headerSaid : List ℕ → Answer
-headerSaid header = ofScans (headerAnswer header)
+-- what a body comes to under an accepted header of that code: a body of traces, or of scans
+abbrev pub closingOf : ℕ → List ℕ → Body → Closing
+closingOf code header body = pick (demultiplexed code) (T.closing header body) (closing (shapeOf header) body)
 
 -- by the header's answer, and by the rules of the uncut body
 abbrev pub byHeader : Answer → List ℕ → List (List ℕ) → Outcome
 byHeader (Refused r) header blocks = O.Refused r 0
 byHeader (Accepted h) header blocks =
-    reported (h .file) (h .code) (length (joined blocks)) (closing (shapeOf header) (bodyIn blocks))
+    reported (h .file) (h .code) (length (joined blocks)) (closingOf (h .code) header (bodyIn blocks))
 
 -- "In a file the first item is the header, the rest are blocks"; LARGE for a header item above cap bytes
 abbrev pub outcomeOf : ℕ → List ℕ → List (List ℕ) → Outcome
-outcomeOf cap header blocks = pick (leb (length header) cap) (byHeader (headerSaid header) header blocks) (O.Refused R.Large 0)
+outcomeOf cap header blocks = pick (leb (length header) cap) (byHeader (headerAnswer header) header blocks) (O.Refused R.Large 0)

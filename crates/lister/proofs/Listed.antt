@@ -138,7 +138,7 @@ listed most header numbers lines portions roomy short size =
     let r = roomy-is most header numbers lines roomy in
     let u : Sum = sum [] 0 [] in
     let d = calls (fresh header numbers lines) portions in
-    let g : Fine headerRoom most u (listerAt (fresh header numbers lines)) = record { rel = record { file-is = refl; count-is = refl; out-is = refl; whole = tt; some = tt; kept = λ n h. refl }; size = r .size; half = r .half } in
+    let g : Fine headerRoom most u (listerAt (fresh header numbers lines)) = record { rel = record { file-is = refl; count-is = refl; out-is = refl; whole = tt; some = tt; kept = λ h. refl }; size = r .size; half = r .half } in
     let c = calls-walks most u (fresh header numbers lines) portions short (r .some) g in
     let b = c .both in
     let a = framed portions in

@@ -23,7 +23,7 @@ use Rattle.framing.proofs.Forward.{forward}
 use Rattle.listing.specs.Lent.{lineRoom, lineIn, lineEnd}
 use Rattle.listing.proofs.Longest.{line-length, last-length}
 use Rattle.files.specs.declared.File.{File}
-use Rattle.files.specs.declared.File.the-variants.{Empty, Heading, Large, Refused, Blocks}
+use Rattle.files.specs.declared.File.the-variants.{Empty, Heading, Large, Refused, Blocks, Traces}
 use Rattle.files.specs.declared.AtMark.{AtMark}
 use Rattle.files.specs.declared.AtMark.the-variants.{Nothing, Line}
 use Rattle.lister.specs.declared.Progress.{Progress}
@@ -72,6 +72,7 @@ has (Heading got) = true
 has Large = true
 has (Refused r) = true
 has (Blocks file format s) = true
+has (Traces file format got s said) = true
 
 base-most : (b : Bool) → base b ≤ 5
 base-most true = omega arith
@@ -107,6 +108,7 @@ said-made (Heading got) = omega arith
 said-made Large = omega arith
 said-made (Refused r) = omega arith
 said-made (Blocks file format s) = omega arith
+said-made (Traces file format got s said) = omega arith
 
 -- a step: a line is made only by the last of nine bytes
 module _ (g : File) (p header : List ℕ) (numbers : List ℤ) where

@@ -31,7 +31,7 @@ module _ (end : Lister) (bytes header : List ℕ) (numbers : List ℤ) (lines₀
   here = record { progress = progress; header = header; numbers = numbers; out = o .out }
 
   step : (header₀ : List ℕ) (numbers₀ : List ℤ) → Roomy (length bytes) header₀ numbers₀ lines₀ → at < length bytes
-      → Here end bytes (turnHeader progress bytes at header) (turnNumbers progress bytes at numbers) lines₀ (lineIn lines to (turnText progress bytes at)) ((turnOf progress bytes at header numbers lines to) .progress) ((turnOf progress bytes at header numbers lines to) .to) ((turnOf progress bytes at header numbers lines to) .end)
+      → Here end bytes (turnHeader progress bytes at header) (turnNumbers progress bytes at header numbers) lines₀ (lineIn lines to (turnText progress bytes at)) ((turnOf progress bytes at header numbers lines to) .progress) ((turnOf progress bytes at header numbers lines to) .to) ((turnOf progress bytes at header numbers lines to) .end)
   step header₀ numbers₀ room h =
       let w = forward (progress .frame) bytes at h in
       let e : length bytes - at ≡ suc (length bytes - at - 1) = omega arith in
@@ -47,7 +47,7 @@ module _ (end : Lister) (bytes header : List ℕ) (numbers : List ℤ) (lines₀
       }
 
   pub on : (header₀ : List ℕ) (numbers₀ : List ℤ) → Roomy (length bytes) header₀ numbers₀ lines₀ → at < length bytes → {r : Turn} {header′ : List ℕ} {numbers′ : List ℤ} {lines′ : List ℕ}
-      → r ≡ turnOf progress bytes at header numbers lines to → header′ ≡ turnHeader progress bytes at header → numbers′ ≡ turnNumbers progress bytes at numbers → lines′ ≡ lineIn lines to (turnText progress bytes at)
+      → r ≡ turnOf progress bytes at header numbers lines to → header′ ≡ turnHeader progress bytes at header → numbers′ ≡ turnNumbers progress bytes at header numbers → lines′ ≡ lineIn lines to (turnText progress bytes at)
       → Here end bytes header′ numbers′ lines₀ lines′ (r .progress) (r .to) (r .end)
   on header₀ numbers₀ room h p q u v = rw (p, q, u, v) (step header₀ numbers₀ room h)
 

@@ -59,11 +59,11 @@ heardHeader f Whole bytes header = bufferAfter f bytes header
 heardHeader f Mark bytes header = header
 
 -- the numbers' buffer,
-abbrev pub heardNumbers : File → Met → List ℕ → List ℤ → List ℤ
-heardNumbers f Framing bytes numbers = numbers
-heardNumbers f Part bytes numbers = numbersAfter f bytes numbers
-heardNumbers f Whole bytes numbers = numbersAfter f bytes numbers
-heardNumbers f Mark bytes numbers = numbers
+abbrev pub heardNumbers : File → Met → List ℕ → List ℕ → List ℤ → List ℤ
+heardNumbers f Framing bytes header numbers = numbers
+heardNumbers f Part bytes header numbers = numbersAfter f bytes header numbers
+heardNumbers f Whole bytes header numbers = numbersAfter f bytes header numbers
+heardNumbers f Mark bytes header numbers = numbers
 
 -- and all that is heard
 abbrev pub heardOf : File → ℕ → Met → List ℕ → List ℕ → List ℤ → List ℕ → ℕ → Heard
@@ -87,9 +87,9 @@ turnHeader t bytes at header =
     heardHeader (t .file) ((nextOf (t .frame) bytes at) .met) (part at ((nextOf (t .frame) bytes at) .to) bytes) header
 
 -- the numbers' buffer,
-abbrev pub turnNumbers : Progress → List ℕ → ℕ → List ℤ → List ℤ
-turnNumbers t bytes at numbers =
-    heardNumbers (t .file) ((nextOf (t .frame) bytes at) .met) (part at ((nextOf (t .frame) bytes at) .to) bytes) numbers
+abbrev pub turnNumbers : Progress → List ℕ → ℕ → List ℕ → List ℤ → List ℤ
+turnNumbers t bytes at header numbers =
+    heardNumbers (t .file) ((nextOf (t .frame) bytes at) .met) (part at ((nextOf (t .frame) bytes at) .to) bytes) header numbers
 
 -- and the whole answer, where the lines end at a place of their buffer
 abbrev pub turnOf : Progress → List ℕ → ℕ → List ℕ → List ℤ → List ℕ → ℕ → Turn
@@ -108,7 +108,7 @@ abbrev pub turned : Lister → List ℕ → ℕ → Lister
 turned s bytes at = record {
   progress = turnProgress (s .progress) bytes at (s .header) (s .numbers);
   header = turnHeader (s .progress) bytes at (s .header);
-  numbers = turnNumbers (s .progress) bytes at (s .numbers);
+  numbers = turnNumbers (s .progress) bytes at (s .header) (s .numbers);
   out = s .out ++ turnText (s .progress) bytes at;
 }
 

@@ -90,7 +90,7 @@ fn hear(
     lines: &mut [u8],
     end: usize,
 ) -> Heard
-    ensures { λ r. ⌜ (r ≡ heardOf f count met (now (bytes .entry)) (now (header .entry)) (now (numbers .entry)) (now (lines .entry)) end) × (now (header .exit) ≡ heardHeader f met (now (bytes .entry)) (now (header .entry))) × (now (numbers .exit) ≡ heardNumbers f met (now (bytes .entry)) (now (numbers .entry))) × (now (lines .exit) ≡ lineIn (now (lines .entry)) end (textBy (saidAt f met) count)) ⌝ }
+    ensures { λ r. ⌜ (r ≡ heardOf f count met (now (bytes .entry)) (now (header .entry)) (now (numbers .entry)) (now (lines .entry)) end) × (now (header .exit) ≡ heardHeader f met (now (bytes .entry)) (now (header .entry))) × (now (numbers .exit) ≡ heardNumbers f met (now (bytes .entry)) (now (header .entry)) (now (numbers .entry))) × (now (lines .exit) ≡ lineIn (now (lines .entry)) end (textBy (saidAt f met) count)) ⌝ }
 {
     match met {
         Met::Framing => Heard {
@@ -130,7 +130,7 @@ fn advance(
     end: usize,
 ) -> Turn
     requires { ⌜ at < length (now bytes) ⌝ }
-    ensures { λ r. ⌜ (r ≡ turnOf t (now (bytes .entry)) at (now (header .entry)) (now (numbers .entry)) (now (lines .entry)) end) × (now (header .exit) ≡ turnHeader t (now (bytes .entry)) at (now (header .entry))) × (now (numbers .exit) ≡ turnNumbers t (now (bytes .entry)) at (now (numbers .entry))) × (now (lines .exit) ≡ lineIn (now (lines .entry)) end (turnText t (now (bytes .entry)) at)) ⌝ }
+    ensures { λ r. ⌜ (r ≡ turnOf t (now (bytes .entry)) at (now (header .entry)) (now (numbers .entry)) (now (lines .entry)) end) × (now (header .exit) ≡ turnHeader t (now (bytes .entry)) at (now (header .entry))) × (now (numbers .exit) ≡ turnNumbers t (now (bytes .entry)) at (now (header .entry)) (now (numbers .entry))) × (now (lines .exit) ≡ lineIn (now (lines .entry)) end (turnText t (now (bytes .entry)) at)) ⌝ }
 {
     let frame = t.frame;
     let s = framing::next(frame, bytes, at);

@@ -29,13 +29,14 @@ abbrev pub ascii : String → List ℕ
 ascii none = []
 ascii (c then s) = code c ∷ ascii s
 
--- "P the stop's place, body length for 19 to 21, 0 for headers": for a refusal's number, its first value and the body's length
-abbrev pub placeFor : ℕ → ℕ → ℕ → ℕ
-placeFor number first bytes = pick (ltb number 14) 0 (pick (leb number 18) first (pick (leb number 21) bytes 0))
+-- "P the stop's place, body length for 19 to 21, 0 for headers": for a refusal's number, its first and third value and the body's length.
+-- A stop's place is its row's first value, that of FOUR the third, which is 0 where a header is refused; LARGE and STATE name none
+abbrev pub placeFor : ℕ → ℕ → ℕ → ℕ → ℕ
+placeFor number first third bytes = pick (ltb number 14) third (pick (leb number 18) first (pick (leb number 21) bytes first))
 
 -- P of a refusal
 abbrev pub placeOf : Refusal → ℕ → ℕ
-placeOf r bytes = placeFor (told r .number) (told r .first) bytes
+placeOf r bytes = placeFor (told r .number) (told r .first) (told r .third) bytes
 
 -- "record number, then `file`, `format`" with their values, and "`scans`, `samples`, `off`" with theirs
 abbrev pub namesOf : ℕ → ℕ → ℕ → List ℕ

@@ -131,12 +131,12 @@ fn listed(
     put(out, b, b"\n")
 }
 
-// P of `refused R at P`, for the refusal's number and first value and the body's length.
-fn place(number: u32, first: u32, bytes: u32) -> u32
-    ensures { λ r. ⌜ r ≡ placeFor number first bytes ⌝ }
+// P of `refused R at P`, for the refusal's number, its first and third value and the body's length.
+fn place(number: u32, first: u32, third: u32, bytes: u32) -> u32
+    ensures { λ r. ⌜ r ≡ placeFor number first third bytes ⌝ }
 {
     if number < 14 {
-        return 0;
+        return third;
     }
     if number <= 18 {
         return first;
@@ -144,7 +144,7 @@ fn place(number: u32, first: u32, bytes: u32) -> u32
     if number <= 21 {
         return bytes;
     }
-    0
+    first
 }
 
 fn refused(out: &mut [u8], at: usize, number: u64, refusal: Refusal, bytes: u32) -> usize
@@ -152,7 +152,7 @@ fn refused(out: &mut [u8], at: usize, number: u64, refusal: Refusal, bytes: u32)
     ensures { λ r. ⌜ (now (out .exit) ≡ sets (now (out .entry)) at (lineOf number (Refused refusal bytes))) × (r ≡ at + length (lineOf number (Refused refusal bytes))) ⌝ }
 {
     let t = refusals::tell(refusal);
-    let p = place(t.number, t.first, bytes);
+    let p = place(t.number, t.first, t.third, bytes);
     let a = put_decimal(out, at, number);
     let b = put_count(out, a, b" refused ", t.number as u64);
     let c = put_count(out, b, b" at ", p as u64);

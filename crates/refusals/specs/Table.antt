@@ -7,7 +7,7 @@ use lib.ListN.{getD}
 use Rattle.basis.specs.Choice.{pick}
 use Rattle.refusals.specs.declared.Refusal.{Refusal}
 use Rattle.refusals.specs.declared.Told.{Told}
-use Rattle.refusals.specs.declared.Refusal.the-variants.{Short, Format, Demux, Digit, Range, Length, Descriptor, Four, Size, Skew, Index, Sheet, Room, Long, Block, Sync, Timing, Phase, Part, Open, Missing, Large, State}
+use Rattle.refusals.specs.declared.Refusal.the-variants.{Short, Format, Demux, Digit, Range, Length, Descriptor, Four, Size, Skew, Index, Sheet, Room, Long, Block, Sync, Timing, Phase, Part, Open, Missing, Large, State, FourAt, Trace, Count}
 
 -- a row's number, and its values in the row's order
 pub record Said : Type 0 where
@@ -43,15 +43,49 @@ said Open = row 20 []
 said Missing = row 21 []
 said Large = row 22 []
 said State = row 23 []
+said (FourAt p t s) = row 8 (t ∷ s ∷ p ∷ [])
+said (Trace p) = row 24 (p ∷ [])
+said (Count p) = row 25 (p ∷ [])
 
--- the same as three numbers
+-- the same as four numbers
 abbrev pub told : Refusal → Told
-told r = record { number = said r .number; first = getD (said r .values) 0 0; second = getD (said r .values) 1 0 }
+told r = record { number = said r .number; first = getD (said r .values) 0 0; second = getD (said r .values) 1 0; third = getD (said r .values) 2 0 }
 
--- "14 to 18 stop the body": the refusal of a stop's number and place; PHASE for 18 and for any number that no stop has
+-- "14 to 18 stop the body at a place", and of a trace body FOUR, 24 and 25 do: the place that a stop names, by case; 0 for what stops nothing
+abbrev pub stopPlace : Refusal → ℕ
+stopPlace (Long p) = p
+stopPlace (Block p) = p
+stopPlace (Sync p) = p
+stopPlace (Timing p) = p
+stopPlace (Phase p) = p
+stopPlace (FourAt p t s) = p
+stopPlace (Trace p) = p
+stopPlace (Count p) = p
+stopPlace Short = 0
+stopPlace Format = 0
+stopPlace Demux = 0
+stopPlace Digit = 0
+stopPlace Range = 0
+stopPlace Length = 0
+stopPlace (Descriptor t s) = 0
+stopPlace (Four t s) = 0
+stopPlace (Size t) = 0
+stopPlace Skew = 0
+stopPlace Index = 0
+stopPlace Sheet = 0
+stopPlace Room = 0
+stopPlace Part = 0
+stopPlace Open = 0
+stopPlace Missing = 0
+stopPlace Large = 0
+stopPlace State = 0
+
+-- the refusal of a stop whose row names its place alone, 14 to 18, 24 and 25, by its number and place; PHASE for 18 and for any other number
 unfoldable pub stopRefusal : ℕ → ℕ → Refusal
 stopRefusal number place =
     pick (eqb number 14) (Long place)
     (pick (eqb number 15) (Block place)
     (pick (eqb number 16) (Sync place)
-    (pick (eqb number 17) (Timing place) (Phase place))))
+    (pick (eqb number 17) (Timing place)
+    (pick (eqb number 24) (Trace place)
+    (pick (eqb number 25) (Count place) (Phase place))))))

@@ -10,11 +10,12 @@ use Rattle.refusals.specs.declared.Refusal.the-variants.{Long, Block, Sync, Tim
 use Rattle.refusals.specs.declared.Fault.{Fault}
 use Rattle.refusals.specs.declared.Fault.the-variants.{Clear, At}
 use Rattle.refusals.specs.Order.{when, orElse}
+use Rattle.refusals.specs.Table.{stopPlace}
 use Rattle.rules.specs.Tape.{Body, byteAt}
 use Rattle.rules.specs.First.{Stops, atByte, atEnd}
 use Rattle.rules.specs.Scans.{Shape}
 use Rattle.rules.specs.Faults.{byteFault, endFault}
-use Rattle.rules.specs.Outcome.{stopPlace, stopOf}
+use Rattle.rules.specs.Outcome.{stopOf}
 use Rattle.refusals.proofs.Clears.{clear-at, at-either}
 use Rattle.rules.proofs.First.{first-fault}
 
@@ -34,10 +35,10 @@ halts-at timing = refl
 halts-at phase = refl
 
 -- what a fault can be
-abbrev Only : (Refusal → Type 0) → Fault → Type 0
+abbrev pub Only : (Refusal → Type 0) → Fault → Type 0
 Only P f = (r : Refusal) → f ≡ At r → P r
 
-only-when : (P : Refusal → Type 0) (t : Bool) (q : Refusal) → P q → Only P (when t q)
+pub only-when : (P : Refusal → Type 0) (t : Bool) (q : Refusal) → P q → Only P (when t q)
 unfolding pick
 only-when P true q h r e = subst P (ap told e) h
   where
@@ -46,7 +47,7 @@ only-when P true q h r e = subst P (ap told e) h
     told (At r) = r
 only-when P false q h r e = absurd (clear-at e)
 
-only-or : (P : Refusal → Type 0) (a b : Fault) → Only P a → Only P b → Only P (orElse a b)
+pub only-or : (P : Refusal → Type 0) (a b : Fault) → Only P a → Only P b → Only P (orElse a b)
 only-or P a b f g r e = ⊎-elim (λ q. f r q) (λ q. g r (q .1)) (at-either a b r e)
 
 module _ (sh : Shape) (byte : ℕ → ℕ) where

@@ -14,11 +14,29 @@ use Rattle.refusals.specs.declared.Refusal.{Refusal}
 use Rattle.refusals.specs.declared.Fault.{Fault}
 use Rattle.refusals.specs.declared.Fault.the-variants.{Clear, At}
 use Rattle.refusals.specs.Order.{orElse, firstUpto}
-use Rattle.rules.specs.Tape.{Body, ends, blockOf, startOf, size, byteAt, bytesFault, blockFault, firstFault}
-use Rattle.rules.specs.Outcome.{stopPlace}
+use Rattle.refusals.specs.Table.{stopPlace}
+use Rattle.rules.specs.Tape.{Body, ends, blockOf, lengthOf, startOf, size, byteAt, bytesFault, blockFault, firstFault}
 use Rattle.basis.proofs.Uptos.{upto-same}
 use Rattle.refusals.proofs.Clears.{first-first}
 use Rattle.rules.proofs.Tapes.{byte-in, last-block, size-last}
+
+-- the byte at place p stands in block i, which begins at place s
+pub record Inside (d : Body) (i s p : ℕ) : Type 0 where
+  pub few : i ≤ ends d
+  pub begins : s ≡ startOf d i
+  pub after : s ≤ p
+  pub before : p < s + lengthOf d i
+
+-- block i, which begins at place s, ends after p bytes
+pub record AtEnd (d : Body) (i s p : ℕ) : Type 0 where
+  pub few : i < ends d
+  pub begins : s ≡ startOf d i
+  pub whole : p ≡ s + lengthOf d i
+
+-- block i has the fault r
+pub data Broke (byteFault endFault : ℕ → ℕ → ℕ → Fault) (i : ℕ) (r : Refusal) : Type 0 where
+  byByte : (s p : ℕ) → byteFault i s p ≡ At r → Broke byteFault endFault i r
+  byEnd : (s p : ℕ) → endFault i s p ≡ At r → Broke byteFault endFault i r
 
 -- a machine's state, and what it has put out so far
 pub record Run (St S : Type 0) : Type 0 where
@@ -68,25 +86,25 @@ module _ {St S : Type 0} (step : St → ℕ → St) (emit : St → ℕ → List 
 
     -- what is to be shown of the machine, one byte and one block end at a time
     pub record Follows : Type 0 where
-      pub byte-on : (i s p : ℕ) → Inv i s p → byteFault i s p ≡ Clear → step (stateAt i p) (byteAt d p) ≡ stateAt i (suc p)
-      pub byte-out : (i s p : ℕ) → Inv i s p → byteFault i s p ≡ Clear → outAt p ++ emit (stateAt i p) (byteAt d p) ≡ outAt (suc p)
-      pub byte-inv : (i s p : ℕ) → Inv i s p → byteFault i s p ≡ Clear → Inv i s (suc p)
-      pub byte-off : (i s p : ℕ) (r : Refusal) → Inv i s p → byteFault i s p ≡ At r → step (stateAt i p) (byteAt d p) ≡ haltAt r i p
-      pub byte-none : (i s p : ℕ) (r : Refusal) → Inv i s p → byteFault i s p ≡ At r → emit (stateAt i p) (byteAt d p) ≡ []
+      pub byte-on : (i s p : ℕ) → Inside d i s p → Inv i s p → byteFault i s p ≡ Clear → step (stateAt i p) (byteAt d p) ≡ stateAt i (suc p)
+      pub byte-out : (i s p : ℕ) → Inside d i s p → Inv i s p → byteFault i s p ≡ Clear → outAt p ++ emit (stateAt i p) (byteAt d p) ≡ outAt (suc p)
+      pub byte-inv : (i s p : ℕ) → Inside d i s p → Inv i s p → byteFault i s p ≡ Clear → Inv i s (suc p)
+      pub byte-off : (i s p : ℕ) (r : Refusal) → Inside d i s p → Inv i s p → byteFault i s p ≡ At r → step (stateAt i p) (byteAt d p) ≡ haltAt r i p
+      pub byte-none : (i s p : ℕ) (r : Refusal) → Inside d i s p → Inv i s p → byteFault i s p ≡ At r → emit (stateAt i p) (byteAt d p) ≡ []
       pub byte-place : (i s p : ℕ) (r : Refusal) → byteFault i s p ≡ At r → stopPlace r ≡ p
       pub byte-still : (i s p : ℕ) (r : Refusal) → byteFault i s p ≡ At r → Still (haltAt r i p)
-      pub end-on : (i s p : ℕ) → Inv i s p → endFault i s p ≡ Clear → endOf (stateAt i p) ≡ stateAt (suc i) p
-      pub end-inv : (i s p : ℕ) → Inv i s p → endFault i s p ≡ Clear → Inv (suc i) p p
-      pub end-off : (i s p : ℕ) (r : Refusal) → Inv i s p → endFault i s p ≡ At r → endOf (stateAt i p) ≡ haltAt r i p
+      pub end-on : (i s p : ℕ) → AtEnd d i s p → Inv i s p → endFault i s p ≡ Clear → endOf (stateAt i p) ≡ stateAt (suc i) p
+      pub end-inv : (i s p : ℕ) → AtEnd d i s p → Inv i s p → endFault i s p ≡ Clear → Inv (suc i) p p
+      pub end-off : (i s p : ℕ) (r : Refusal) → AtEnd d i s p → Inv i s p → endFault i s p ≡ At r → endOf (stateAt i p) ≡ haltAt r i p
       pub end-place : (i s p : ℕ) (r : Refusal) → endFault i s p ≡ At r → stopPlace r ≡ p
       pub end-still : (i s p : ℕ) (r : Refusal) → endFault i s p ≡ At r → Still (haltAt r i p)
 
     module _ (m : Follows) where
-      one-on : (i s p : ℕ) → Inv i s p → byteFault i s p ≡ Clear → one (formAt i p) (byteAt d p) ≡ formAt i (suc p)
-      one-on i s p h e = both (m .byte-on i s p h e) (m .byte-out i s p h e)
+      one-on : (i s p : ℕ) → Inside d i s p → Inv i s p → byteFault i s p ≡ Clear → one (formAt i p) (byteAt d p) ≡ formAt i (suc p)
+      one-on i s p a h e = both (m .byte-on i s p a h e) (m .byte-out i s p a h e)
 
-      one-off : (i s p : ℕ) (r : Refusal) → Inv i s p → byteFault i s p ≡ At r → one (formAt i p) (byteAt d p) ≡ stopAt r i p
-      one-off i s p r h e = both (m .byte-off i s p r h e) (ap (λ (l : List S). outAt p ++ l) (m .byte-none i s p r h e) ∙ append-nil (outAt p))
+      one-off : (i s p : ℕ) (r : Refusal) → Inside d i s p → Inv i s p → byteFault i s p ≡ At r → one (formAt i p) (byteAt d p) ≡ stopAt r i p
+      one-off i s p r a h e = both (m .byte-off i s p r a h e) (ap (λ (l : List S). outAt p ++ l) (m .byte-none i s p r a h e) ∙ append-nil (outAt p))
 
       -- the faults of the bytes from place p on
       abbrev from : ℕ → ℕ → ℕ → ℕ → Fault
@@ -100,35 +118,38 @@ module _ {St S : Type 0} (step : St → ℕ → St) (emit : St → ℕ → List 
 
       data Fed (i s p n : ℕ) (c : Run St S) : Type 0 where
         went : firstUpto (from i s p) n ≡ Clear → c ≡ formAt i (p + n) → Inv i s (p + n) → Fed i s p n c
-        fell : (r : Refusal) → firstUpto (from i s p) n ≡ At r → c ≡ stopAt r i (stopPlace r) → Still (haltAt r i (stopPlace r)) → Fed i s p n c
+        fell : (r : Refusal) → Broke byteFault endFault i r → firstUpto (from i s p) n ≡ At r → c ≡ stopAt r i (stopPlace r) → Still (haltAt r i (stopPlace r)) → Fed i s p n c
 
-      fed : (bs : List ℕ) (i s p : ℕ) → Inv i s p → ((k : ℕ) → k < length bs → byteAt d (p + k) ≡ getD bs k 0) → Fed i s p (length bs) (feed (formAt i p) bs)
+      fed : (bs : List ℕ) (i s p : ℕ) → i ≤ ends d → s ≡ startOf d i → s ≤ p → p + length bs ≤ s + lengthOf d i → Inv i s p → ((k : ℕ) → k < length bs → byteAt d (p + k) ≡ getD bs k 0) → Fed i s p (length bs) (feed (formAt i p) bs)
       unfolding upto
-      fed [] i s p h same = went refl (rw (add-zero p)) (rw (add-zero p) h)
-      fed (b ∷ bs) i s p h same =
+      fed [] i s p l q a n h same = went refl (rw (add-zero p)) (rw (add-zero p) h)
+      fed (b ∷ bs) i s p l q a n h same =
           rw (sym (same 0 (omega arith)) ∙ ap (byteAt d) (add-zero p))
           (go (byteFault i s p) refl
-          (λ z. fed bs i s (suc p) (m .byte-inv i s p h z) (λ k l. ap (byteAt d) (let q : suc p + k ≡ p + suc k = omega arith in q) ∙ same (suc k) (omega arith))))
+          (λ z. fed bs i s (suc p) l q (omega arith) (omega arith) (m .byte-inv i s p here h z) (λ k l. ap (byteAt d) (let q : suc p + k ≡ p + suc k = omega arith in q) ∙ same (suc k) (omega arith))))
         where
+          here : Inside d i s p
+          here = record { few = l; begins = q; after = a; before = omega arith }
+
           go : (f : Fault) → byteFault i s p ≡ f → (byteFault i s p ≡ Clear → Fed i s (suc p) (length bs) (feed (formAt i (suc p)) bs))
               → Fed i s p (suc (length bs)) (feed (one (formAt i p) (byteAt d p)) bs)
-          go Clear z more = rw (one-on i s p h z) (pass (more z))
+          go Clear z more = rw (one-on i s p here h z) (pass (more z))
             where
               pass : Fed i s (suc p) (length bs) (feed (formAt i (suc p)) bs) → Fed i s p (suc (length bs)) (feed (formAt i (suc p)) bs)
               pass (went f c g) =
                   let n : suc p + length bs ≡ p + suc (length bs) = omega arith in
                   went (from-first i s p (length bs) ∙ rw (z, f)) (rw n at c) (rw n at g)
-              pass (fell r f c v) = fell r (from-first i s p (length bs) ∙ rw (z, f)) c v
+              pass (fell r g f c v) = fell r g (from-first i s p (length bs) ∙ rw (z, f)) c v
           go (At r) z more =
-              rw (one-off i s p r h z)
-              (fell r (from-first i s p (length bs) ∙ rw z)
+              rw (one-off i s p r here h z)
+              (fell r (byByte s p z) (from-first i s p (length bs) ∙ rw z)
               (stay-feed (stopAt r i p) (m .byte-still i s p r z) bs ∙ ap (stopAt r i) (sym (m .byte-place i s p r z)))
               (subst (λ (q : ℕ). Still (haltAt r i q)) (sym (m .byte-place i s p r z)) (m .byte-still i s p r z)))
 
       -- ---- block by block
       fed-block : (b : List ℕ) (i : ℕ) → i ≤ ends d → blockOf d i ≡ b → Inv i (startOf d i) (startOf d i) → Fed i (startOf d i) (startOf d i) (length b) (feed (formAt i (startOf d i)) b)
       fed-block b i l e h =
-          fed b i (startOf d i) (startOf d i) h
+          fed b i (startOf d i) (startOf d i) l refl (omega arith) (omega (arith, ap length e)) h
           (λ k u. byte-in d i k l (subst (λ (x : List ℕ). k < length x) (sym e) u) ∙ ap (λ (x : List ℕ). getD x k 0) e)
 
       -- what is left from block k on
@@ -150,7 +171,7 @@ module _ {St S : Type 0} (step : St → ℕ → St) (emit : St → ℕ → List 
 
       pub data Ran (f : Fault) (c : Run St S) : Type 0 where
         went : f ≡ Clear → c ≡ formAt (ends d) (size d) → Inv (ends d) (startOf d (ends d)) (size d) → Ran f c
-        fell : (r : Refusal) (i : ℕ) → f ≡ At r → c ≡ stopAt r i (stopPlace r) → Ran f c
+        fell : (r : Refusal) (i : ℕ) → Broke byteFault endFault i r → f ≡ At r → c ≡ stopAt r i (stopPlace r) → Ran f c
 
       pub ran : (bs : List (List ℕ)) (k : ℕ) → drop k (d .blocks) ≡ bs → k + length bs ≡ ends d → Inv k (startOf d k) (startOf d k)
           → Ran (left k (length bs)) (uncut (formAt k (startOf d k)) bs (d .tail))
@@ -163,7 +184,7 @@ module _ {St S : Type 0} (step : St → ℕ → St) (emit : St → ℕ → List 
           go : Fed (ends d) (startOf d (ends d)) (startOf d (ends d)) (length (d .tail)) (feed (formAt (ends d) (startOf d (ends d))) (d .tail))
               → Ran (left (ends d) 0) (feed (formAt (ends d) (startOf d (ends d))) (d .tail))
           go (went f c g) = went (rw (last-block d) f) (rw (size-last d) at c) (rw (size-last d) at g)
-          go (fell r f c v) = fell r (ends d) (rw (last-block d) f) c
+          go (fell r g f c v) = fell r (ends d) g (rw (last-block d) f) c
       ran (b ∷ bs) k e n h =
           go (fed-block b k (omega (arith, n)) here h)
           (λ g. ran bs (suc k) (ap (λ (x : ℕ). drop x (d .blocks)) (sym (add-one k)) ∙ sym (drop-drop 1 k (d .blocks)) ∙ ap (drop 1) e) (omega (arith, n)) g)
@@ -173,6 +194,9 @@ module _ {St S : Type 0} (step : St → ℕ → St) (emit : St → ℕ → List 
 
           q : ℕ
           q = startOf d k + length b
+
+          shut : AtEnd d k (startOf d k) q
+          shut = record { few = omega (arith, n); begins = refl; whole = ap (λ (x : List ℕ). startOf d k + length x) (sym here) }
 
           all : startOf d (suc k) ≡ startOf d k + length b
           all = rw here
@@ -186,23 +210,23 @@ module _ {St S : Type 0} (step : St → ℕ → St) (emit : St → ℕ → List 
           go : Fed k (startOf d k) (startOf d k) (length b) (feed (formAt k (startOf d k)) b)
               → (Inv (suc k) (startOf d (suc k)) (startOf d (suc k)) → Ran (left (suc k) (length bs)) (uncut (formAt (suc k) (startOf d (suc k))) bs (d .tail)))
               → Ran (left k (suc (length bs))) (uncut (formAt k (startOf d k)) (b ∷ bs) (d .tail))
-          go (fell r f c v) more =
-              fell r k (left-first k (length bs) ∙ rw (here, f))
+          go (fell r g f c v) more =
+              fell r k g (left-first k (length bs) ∙ rw (here, f))
               (on c ∙ then (both (v .closes) refl) ∙ stay-uncut (stopAt r k (stopPlace r)) v bs (d .tail))
           go (went f c g) more = by (endFault k (startOf d k) q) refl
             where
               by : (x : Fault) → endFault k (startOf d k) q ≡ x → Ran (left k (suc (length bs))) (uncut (formAt k (startOf d k)) (b ∷ bs) (d .tail))
-              by Clear z = pass (more (rw all (m .end-inv k (startOf d k) q g z)))
+              by Clear z = pass (more (rw all (m .end-inv k (startOf d k) q shut g z)))
                 where
                   next : uncut (close (feed (formAt k (startOf d k)) b)) bs (d .tail) ≡ uncut (formAt (suc k) (startOf d (suc k))) bs (d .tail)
-                  next = on c ∙ then (both (m .end-on k (startOf d k) q g z) refl ∙ ap (formAt (suc k)) (sym all))
+                  next = on c ∙ then (both (m .end-on k (startOf d k) q shut g z) refl ∙ ap (formAt (suc k)) (sym all))
 
                   pass : Ran (left (suc k) (length bs)) (uncut (formAt (suc k) (startOf d (suc k))) bs (d .tail)) → Ran (left k (suc (length bs))) (uncut (formAt k (startOf d k)) (b ∷ bs) (d .tail))
                   pass (went f′ c′ g′) = went (left-first k (length bs) ∙ rw (here, f, z) f′) (next ∙ c′) g′
-                  pass (fell r j f′ c′) = fell r j (left-first k (length bs) ∙ rw (here, f, z) f′) (next ∙ c′)
+                  pass (fell r j g′ f′ c′) = fell r j g′ (left-first k (length bs) ∙ rw (here, f, z) f′) (next ∙ c′)
               by (At r) z =
-                  fell r k (left-first k (length bs) ∙ rw (here, f, z))
-                  (on c ∙ then (both (m .end-off k (startOf d k) q r g z) refl) ∙ stay-uncut (stopAt r k q) (m .end-still k (startOf d k) q r z) bs (d .tail) ∙ ap (stopAt r k) (sym (m .end-place k (startOf d k) q r z)))
+                  fell r k (byEnd (startOf d k) q z) (left-first k (length bs) ∙ rw (here, f, z))
+                  (on c ∙ then (both (m .end-off k (startOf d k) q r shut g z) refl) ∙ stay-uncut (stopAt r k q) (m .end-still k (startOf d k) q r z) bs (d .tail) ∙ ap (stopAt r k) (sym (m .end-place k (startOf d k) q r z)))
 
       -- The whole body, from its first byte.
       pub ran-all : Inv 0 0 0 → Ran (firstFault byteFault endFault d) (uncut (formAt 0 0) (d .blocks) (d .tail))

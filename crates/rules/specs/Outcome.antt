@@ -14,7 +14,7 @@ use Rattle.refusals.specs.declared.Refusal.the-variants.{Part, Open, Missing}
 use Rattle.refusals.specs.declared.Fault.{Fault}
 use Rattle.refusals.specs.declared.Fault.the-variants.{Clear, At}
 use Rattle.refusals.specs.Order.{when, orElse}
-use Rattle.refusals.specs.Table.{told}
+use Rattle.refusals.specs.Table.{stopPlace}
 use Rattle.rules.specs.Tape.{Body, byteAt, size, firstFault}
 use Rattle.rules.specs.Scans.{Shape, twiOf, itbOf, timeOf, typeOf}
 use Rattle.rules.specs.Faults.{byteFault, endFault}
@@ -63,10 +63,6 @@ pub data Closing : Type 0 where
 abbrev pub answered : Fault → Report → Closing
 answered Clear t = report t
 answered (At r) t = refused r
-
--- the place that a stop names
-abbrev pub stopPlace : Refusal → ℕ
-stopPlace r = told r .first
 
 -- how many of n bytes come before a stop
 abbrev pub bytesBefore : Fault → ℕ → ℕ

@@ -14,6 +14,27 @@ use Rattle.words.specs.Words.{valueOf, offOne}
 use Rattle.layout.specs.Places.{groupPlaceOf, wordPlaceOf}
 use Rattle.rules.specs.Scans.{Shape}
 
+-- ---- of any body: sample k of samples in groups, whose group begins at place g and whose word at place w
+-- the exponents of its group, and its word
+abbrev pub leadFrom : ℕ → (ℕ → ℕ) → ℕ → ℕ
+leadFrom code byte g = written 256 byte g (leadOf code)
+
+abbrev pub wordFrom : ℕ → (ℕ → ℕ) → ℕ → ℕ
+wordFrom code byte w = written 256 byte w (wordBytesOf code)
+
+-- "four c of 4 bits", the first highest: of such exponents its own c; 0 where none stand apart
+abbrev pub exponentFrom : ℕ → ℕ → ℕ → ℕ
+exponentFrom code lead k = field lead (4 * (perOf code - 1 - k % perOf code)) 4
+
+-- "each sample is (M, X)", with its off-rule mark
+abbrev pub valueFrom : ℕ → (ℕ → ℕ) → ℕ → ℕ → ℕ → Value
+valueFrom code byte g w k = valueOf code (exponentFrom code (leadFrom code byte g) k) (wordFrom code byte w)
+
+-- "M then X"
+abbrev pub mThenX : Value → List ℤ
+mThenX v = v .m ∷ v .x ∷ []
+
+-- ---- of a body of scans
 module _ (sh : Shape) (byte : ℕ → ℕ) where
   -- the place in its scan of the group of sample k, and of its word
   abbrev pub groupBegins : ℕ → ℕ
@@ -30,24 +51,27 @@ module _ (sh : Shape) (byte : ℕ → ℕ) where
   unfoldable pub doneBefore : ℕ → ℕ
   doneBefore p = p / sh .scan * sh .samples + sumUpto (doneIn (p % sh .scan)) (sh .samples)
 
-  -- sample n: the exponents of its group, and its word
+  -- the places in the body of the group of sample n, and of its word
+  abbrev pub groupStart : ℕ → ℕ
+  groupStart n = n / sh .samples * sh .scan + groupBegins (n % sh .samples)
+
+  abbrev pub wordStart : ℕ → ℕ
+  wordStart n = n / sh .samples * sh .scan + wordBegins (n % sh .samples)
+
+  -- the exponents and the word there
   abbrev pub leadAt : ℕ → ℕ
-  leadAt n = written 256 byte (n / sh .samples * sh .scan + groupBegins (n % sh .samples)) (leadOf (sh .code))
+  leadAt n = leadFrom (sh .code) byte (groupStart n)
 
   abbrev pub wordAt : ℕ → ℕ
-  wordAt n = written 256 byte (n / sh .samples * sh .scan + wordBegins (n % sh .samples)) (wordBytesOf (sh .code))
+  wordAt n = wordFrom (sh .code) byte (wordStart n)
 
-  -- "four c of 4 bits", the first highest: its own c; 0 where none stand apart
-  abbrev pub exponentAt : ℕ → ℕ
-  exponentAt n = field (leadAt n) (4 * (perOf (sh .code) - 1 - n % sh .samples % perOf (sh .code))) 4
-
-  -- "each sample is (M, X)", with its off-rule mark
+  -- the sample that they make
   unfoldable pub valueAt : ℕ → Value
-  valueAt n = valueOf (sh .code) (exponentAt n) (wordAt n)
+  valueAt n = valueFrom (sh .code) byte (groupStart n) (wordStart n) (n % sh .samples)
 
   -- "M then X"
   unfoldable pub numbersAt : ℕ → List ℤ
-  numbersAt n = valueAt n .m ∷ valueAt n .x ∷ []
+  numbersAt n = mThenX (valueAt n)
 
   -- 1 where it is off rule
   unfoldable pub offAt : ℕ → ℕ

@@ -7,7 +7,7 @@ use mathlib.Core.List.{[], _∷_}
 use native.Mathlib.Omega.{arith}
 use borrow.Author.Tests.{eqb-true, eqb-false, leb-true}
 use lib.Dec.{eqb, leb}
-use Rattle.basis.specs.Choice.{_and_, _or_}
+use Rattle.basis.specs.Choice.{pick, _and_, _or_}
 use Rattle.basis.proofs.Choices.{both-true}
 use Rattle.refusals.specs.declared.Refusal.{Refusal}
 use Rattle.refusals.specs.Table.{said, stopRefusal}
@@ -32,7 +32,7 @@ stop-said n place e z =
     (λ a. pick-cases P (eqb n 15) (λ t. rw (eqb-true n 15 t))
     (λ c. pick-cases P (eqb n 16) (λ t. rw (eqb-true n 16 t))
     (λ d. pick-cases P (eqb n 17) (λ t. rw (eqb-true n 17 t))
-    (λ f. let k : n ≡ 18 = last n (b .0) (b .1) (eqb-false n 14 a) (eqb-false n 15 c) (eqb-false n 16 d) (eqb-false n 17 f) in rw k))))
+    (λ f. let k : n ≡ 18 = last n (b .0) (b .1) (eqb-false n 14 a) (eqb-false n 15 c) (eqb-false n 16 d) (eqb-false n 17 f) in rw k (unfold pick in refl)))))
   where
     last : (n : ℕ) → 14 ≤ n → n ≤ 18 → (n ≡ 14 → ⊥) → (n ≡ 15 → ⊥) → (n ≡ 16 → ⊥) → (n ≡ 17 → ⊥) → n ≡ 18
     last n h k a c d f = omega arith

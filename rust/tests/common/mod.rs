@@ -1,8 +1,9 @@
 //! Header blocks for the tests.
 
-use segd::Body;
+use segd::{Body, Traces};
 
 /// The body of the description's case L.
+#[allow(dead_code)]
 pub const L_BODY: [u8; 24] =
     *b"\xFF\xFF\xFF\x01\0\0\0\0\x18\x97\xFF\0\xFF\xFF\xFF\x01\0\x02\0\0\x18\x97\0\0";
 
@@ -41,6 +42,13 @@ pub fn case_l() -> Vec<u8> {
 }
 
 /// The body that an accepted header of a multiplexed record opens.
+#[allow(dead_code)] // not every test has scans
 pub fn scans(block: &[u8]) -> Body {
     segd::open(block).expect("an accepted header").scans().expect("a body of scans")
+}
+
+/// The body that an accepted header of a demultiplexed record opens.
+#[allow(dead_code)] // not every test has traces
+pub fn traces(block: &[u8]) -> Traces<'_> {
+    segd::open(block).expect("an accepted header").traces().expect("a body of traces")
 }

@@ -71,7 +71,7 @@ fn spoiled(rng: &mut Rng, state: &State) -> Vec<(String, State)> {
 }
 
 /// Portions with room, without room and without bytes, and the other calls.
-fn each_call(bytes: &[u8]) -> Vec<Call> {
+pub(in crate::compare) fn each_call(bytes: &[u8]) -> Vec<Call> {
     let portion = |bytes: &[u8], room: usize| Call::Portion { bytes: bytes.to_vec(), room };
     let room = bytes.len() * 2;
     vec![

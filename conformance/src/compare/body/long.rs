@@ -2,12 +2,15 @@
 
 use crate::compare::{Effort, Group, Results};
 use crate::make::records::{large_blocks, long_shot, longest_scans, switched_interval, Record};
+use crate::make::records::{long_trace, switched_traces};
 use crate::make::rng::Rng;
 use crate::ours::body as ours;
-use crate::ours::body::State;
-use crate::reader::body::{read_body, Report, Sample};
+use crate::ours::body::Opened;
+use crate::reader::body::{open, Kind, Report, Sample};
 use crate::reader::calls::Answer;
-use crate::reader::words::CODES;
+use crate::reader::scans::read_scans;
+use crate::reader::traces::read_traces;
+use crate::reader::words::{CODES, TRACE_CODES};
 use crate::reader::Refusal;
 
 const SIZES: [usize; 3] = [1, 7, 65_536];
@@ -36,6 +39,25 @@ pub fn compare(results: &mut Results, effort: Effort) {
     compare_records(results, effort, "scans of 999999 bytes", [0x0022].into_iter(), |_| {
         longest_scans(&mut rng, effort.of(1, 8) as usize)
     });
+    compare_traces(results, effort);
+}
+
+/// Records of traces, each code in turn.
+fn compare_traces(results: &mut Results, effort: Effort) {
+    let mut rng = Rng::new(614);
+    let samples = effort.of(8_000, 100_000) as usize;
+    compare_records(results, effort, "traces of many samples", TRACE_CODES.into_iter(), |code| {
+        long_trace(&mut rng, code, samples)
+    });
+    let scans = effort.of(60, 2_000) as usize;
+    let codes = TRACE_CODES.into_iter();
+    compare_records(
+        results,
+        effort,
+        "traces, the sampling interval changed halfway",
+        codes,
+        |code| switched_traces(&mut rng, code, scans),
+    );
 }
 
 /// What a record comes to: all numbers, and the closing.
@@ -66,7 +88,11 @@ fn compare_records(
 }
 
 fn uncut((block, body): &Record) -> Read {
-    let reading = read_body(block, body).expect("the header of a record is sound");
+    let read = match open(block).expect("the header of a record is sound") {
+        Kind::Scans => read_scans(block, body),
+        Kind::Traces => read_traces(block, body),
+    };
+    let reading = read.expect("its body is of that kind");
     let report = reading.closing.expect("and so is its body");
     let pair = |sample: &Sample| [sample.m, sample.x];
     (reading.samples.iter().flat_map(pair).collect(), Ok(report))
@@ -88,24 +114,24 @@ fn difference(ours: Result<Read, String>, wanted: &Read) -> Option<String> {
 
 /// Reads a record that has to go on to its end.
 fn in_portions((block, body): &Record, size: usize) -> Result<Read, String> {
-    let (_, mut state) = ours::open(block).map_err(|refusal| format!("not opened: {refusal:?}"))?;
+    let mut opened = ours::open(block).map_err(|refusal| format!("not opened: {refusal:?}"))?;
     let mut numbers = Vec::new();
     for bytes in &body.blocks {
         for portion in bytes.chunks(size) {
-            numbers.extend(going_on(&mut state, portion)?);
+            numbers.extend(going_on(&mut opened, block, portion)?);
         }
-        let ended = ours::block_end(&mut state)?;
+        let ended = opened.block_end(block)?;
         if ended != Answer::BlockEnd(None) {
-            return Err(format!("after {} bytes {ended:?}", state.place));
+            return Err(format!("{ended:?} left {opened:?}"));
         }
     }
-    Ok((numbers, ours::close(state)))
+    Ok((numbers, opened.close(block)))
 }
 
 /// The numbers of a portion that goes on.
-fn going_on(state: &mut State, bytes: &[u8]) -> Result<Vec<i32>, String> {
-    match ours::portion(state, bytes, 2 * bytes.len())? {
+fn going_on(opened: &mut Opened, block: &[u8], bytes: &[u8]) -> Result<Vec<i32>, String> {
+    match opened.portion(block, bytes, 2 * bytes.len())? {
         Answer::Portion { numbers, refusal: None } => Ok(numbers),
-        other => Err(format!("after {} bytes {other:?}", state.place)),
+        other => Err(format!("{other:?} left {opened:?}")),
     }
 }

@@ -36,6 +36,24 @@ enum-known-f-3 c = search needs
 block-end-requires : tie.Need-block-end-requires
 block-end-requires c κs = search needs
 
+enum-known-f-4 : tie.Need-enum-known-f-4
+enum-known-f-4 c = search needs
+
+front-requires : tie.Need-front-requires
+front-requires c κs = search needs
+
+slice-aggregate-block-end : tie.Need-slice-aggregate-block-end
+slice-aggregate-block-end c = sym (length-take-le _ _ (c .before .front .ensures .0))
+
+block-end-requires-2 : tie.Need-block-end-requires-2
+block-end-requires-2 c κs = search needs
+
+slice-aggregate-traces-at : tie.Need-slice-aggregate-traces-at
+slice-aggregate-traces-at c = sym (length-take-le _ _ (c .before .before .before .before .front .ensures .0))
+
+traces-at-requires : tie.Need-traces-at-requires
+traces-at-requires c κs = search needs
+
 returns-2 : tie.Need-returns-2
 returns-2 c = search needs
 
@@ -52,6 +70,9 @@ returns-5 c = rw (c .before .f2 .given .1)
 returns-6 : tie.Need-returns-6
 returns-6 c = rw (c .before .before .before .f3 .given .1, c .before .block-end .ensures)
 
+returns-7 : tie.Need-returns-7
+returns-7 c = rw (c .before .before .before .before .before .before .before .f4 .given .1, ← (c .before .before .before .before .before .front .ensures .1), c .traces-at .ensures, c .before .before .before .block-end2 .ensures)
+
 pub item-end-spec : {M : Type 1} → statement M
 item-end-spec =
     tie.close
@@ -65,8 +86,15 @@ item-end-spec =
     enum-known-f-2
     enum-known-f-3
     block-end-requires
+    enum-known-f-4
+    front-requires
+    slice-aggregate-block-end
+    block-end-requires-2
+    slice-aggregate-traces-at
+    traces-at-requires
     returns-2
     returns-3
     returns-4
     returns-5
-    returns-6)
+    returns-6
+    returns-7)

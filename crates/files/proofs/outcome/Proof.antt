@@ -22,6 +22,9 @@ enum-known-f-2 c = search needs
 closed-requires : tie.Need-closed-requires
 closed-requires c κs = search needs
 
+enum-known-f-3 : tie.Need-enum-known-f-3
+enum-known-f-3 c = search needs
+
 returns : tie.Need-returns
 returns c = search needs
 
@@ -37,6 +40,9 @@ returns-4 c = rw (c .before .f .given .1)
 returns-5 : tie.Need-returns-5
 returns-5 c = rw (c .closed .ensures, c .before .before .f2 .given .1)
 
+returns-6 : tie.Need-returns-6
+returns-6 c = rw (c .before .f3 .given .1)
+
 pub outcome-spec : {M : Type 1} → statement M
 outcome-spec =
     tie.close
@@ -47,8 +53,10 @@ outcome-spec =
     enum-known-f
     enum-known-f-2
     closed-requires
+    enum-known-f-3
     returns
     returns-2
     returns-3
     returns-4
-    returns-5)
+    returns-5
+    returns-6)

@@ -63,7 +63,7 @@ returns c =
     let r = c2 .put-count2 .ensures in
     let e = c1 .put .ensures in
     let t = four (g .out .now) (decimalOf (g .number)) (ascii " refused " ++ decimalOf (s .result .number)) (ascii " at " ++ decimalOf (place .result)) (10 ∷ []) (g .at) (p .0) (p .1) (q .0) (q .1) (r .0) (r .1) (e .0) (e .1) in
-    let at : place .result ≡ placeOf (g .refusal) (g .bytes) = place .ensures ∙ ap (λ (t : Told). placeFor (t .number) (t .first) (g .bytes)) (s .ensures) in
+    let at : place .result ≡ placeOf (g .refusal) (g .bytes) = place .ensures ∙ ap (λ (t : Told). placeFor (t .number) (t .first) (t .third) (g .bytes)) (s .ensures) in
     let same : decimalOf (g .number) ++ ((ascii " refused " ++ decimalOf (s .result .number)) ++ ((ascii " at " ++ decimalOf (place .result)) ++ (10 ∷ []))) ≡ lineOf (g .number) (Refused (g .refusal) (g .bytes)) =
     rw (at, s .ensures) in
     (t .0 ∙ rw same, t .1 ∙ rw same)

@@ -157,6 +157,30 @@ enum-told-15 c = search needs
 in-row-requires-23 : tie.Need-in-row-requires-23
 in-row-requires-23 c κs = search needs
 
+enum-known-refusal-9 : tie.Need-enum-known-refusal-9
+enum-known-refusal-9 c = search needs
+
+cast-in-row-6 : tie.Need-cast-in-row-6
+cast-in-row-6 c = search needs
+
+cast-in-row-7 : tie.Need-cast-in-row-7
+cast-in-row-7 c = search needs
+
+in-row-requires-24 : tie.Need-in-row-requires-24
+in-row-requires-24 c κs = search needs
+
+enum-known-refusal-10 : tie.Need-enum-known-refusal-10
+enum-known-refusal-10 c = search needs
+
+in-row-requires-25 : tie.Need-in-row-requires-25
+in-row-requires-25 c κs = search needs
+
+enum-known-refusal-11 : tie.Need-enum-known-refusal-11
+enum-known-refusal-11 c = search needs
+
+in-row-requires-26 : tie.Need-in-row-requires-26
+in-row-requires-26 c κs = search needs
+
 returns : tie.Need-returns
 returns c = rw (c .before .enum-told .given .1, c .in-row .ensures)
 
@@ -226,6 +250,15 @@ returns-22 c = rw (c .before .enum-told14 .given .1, c .in-row22 .ensures)
 returns-23 : tie.Need-returns-23
 returns-23 c = rw (c .before .enum-told15 .given .1, c .in-row23 .ensures)
 
+returns-24 : tie.Need-returns-24
+returns-24 c = rw (c .before .before .refusal9 .given .1, c .in-row24 .ensures)
+
+returns-25 : tie.Need-returns-25
+returns-25 c = rw (c .before .before .refusal10 .given .1, c .in-row25 .ensures)
+
+returns-26 : tie.Need-returns-26
+returns-26 c = rw (c .before .before .refusal11 .given .1, c .in-row26 .ensures)
+
 pub tell-spec : {M : Type 1} → statement M
 tell-spec =
     tie.close
@@ -281,6 +314,14 @@ tell-spec =
     in-row-requires-22
     enum-told-15
     in-row-requires-23
+    enum-known-refusal-9
+    cast-in-row-6
+    cast-in-row-7
+    in-row-requires-24
+    enum-known-refusal-10
+    in-row-requires-25
+    enum-known-refusal-11
+    in-row-requires-26
     returns
     returns-2
     returns-3
@@ -303,4 +344,7 @@ tell-spec =
     returns-20
     returns-21
     returns-22
-    returns-23)
+    returns-23
+    returns-24
+    returns-25
+    returns-26)

@@ -58,7 +58,7 @@ impl Chart<'_> {
             style,
             scales: scales(traces, options),
             area,
-            title: title(options, reading),
+            title: title(options, reading, traces.scans),
             about: format!("{}, {drawn}, {level}", about(reading, traces)),
             note: note(traces),
         }
@@ -165,10 +165,9 @@ impl Chart<'_> {
 }
 
 /// The record as the lister has it; of one that is refused what was read, and then the refusal.
-fn title(options: &Options, reading: &Reading) -> [(String, Colour); 2] {
+fn title(options: &Options, reading: &Reading, scans: usize) -> [(String, Colour); 2] {
     let name = options.image.rsplit('/').next().unwrap_or_default();
     let header = &reading.header;
-    let scans = reading.samples.len() / header.samples_per_scan as usize;
     let read = format!(
         "{name}, record {}: file {:04} format {:04X} scans {scans} samples {}",
         options.record,

@@ -1,7 +1,7 @@
 //! A record's samples as traces: a channel's values by time.
 
 use segd::reel::{Reading, Record};
-use segd::{Header, Refusal};
+use segd::{Header, Place, Refusal, Sample};
 use std::collections::BTreeMap;
 
 /// Times are in 1/4096 ms, from the first scan's timing word on.
@@ -9,6 +9,9 @@ pub const MS: f64 = 4096.0;
 
 /// A timing word starts again after 2^24 of its 1/256 ms.
 const LAP: i64 = 16 << 24;
+
+/// Bytes of a demultiplexed trace before its samples.
+const TRACE_HEADER: usize = 20;
 
 /// The part of a trace's samples that stay below its level.
 const BELOW: f64 = 0.99;
@@ -32,6 +35,8 @@ pub struct Trace {
 pub struct Traces {
     pub all: Vec<Trace>,
     pub course: Course,
+    /// Scans that were read whole; of a demultiplexed record that stops, those of the scan types that were begun.
+    pub scans: usize,
     /// The time of a base scan.
     pub scan: i64,
     /// The first scan's time and the last one's end, or the narrower times that are kept.
@@ -122,6 +127,22 @@ fn course<'a>(scans: impl Iterator<Item = &'a [u8]>) -> Course {
     course
 }
 
+/// The course of a demultiplexed record, whose scan types have so many scans: each follows the one before in step. The first timing word
+/// is all that is taken from the tape.
+fn even_course(first: i64, counts: &[usize], step: i64) -> Course {
+    let mut course = Course { first, restarts: vec![], switches: vec![], scans: vec![] };
+    for (scan_type, count) in counts.iter().enumerate() {
+        let from = course.scans.len() as i64;
+        if scan_type > 0 {
+            course.switches.push((from * step, scan_type + 1));
+        }
+        course.scans.extend((from..from + *count as i64).map(|n| (n * step, scan_type + 1)));
+    }
+    let end = course.scans.len() as i64 * step;
+    course.restarts = (1..).map(|lap| lap * LAP - 16 * first).take_while(|t| *t < end).collect();
+    course
+}
+
 fn level(points: &[Point]) -> f64 {
     let mut sizes: Vec<f64> = points.iter().map(|point| point.value.abs()).collect();
     sizes.sort_by(f64::total_cmp);
@@ -133,22 +154,109 @@ fn level(points: &[Point]) -> f64 {
     }
 }
 
-/// The traces of a record as far as it was read.
-pub fn traces(record: &Record, reading: &Reading) -> Result<Traces, Refusal> {
+/// The points of each channel, by set and channel.
+type Gathered = BTreeMap<(u32, u32), Vec<Point>>;
+
+fn gather(gathered: &mut Gathered, slot: &Slot, time: i64, sample: &Sample) {
+    let point = Point { time: time + slot.delay, value: sample.value() * slot.factor };
+    gathered.entry((slot.set, slot.channel)).or_default().push(point);
+}
+
+/// A multiplexed record: the slots of its scan type, scan after scan.
+fn of_scans(record: &Record, reading: &Reading, types: &[Vec<Slot>]) -> (Course, Gathered) {
     let header = &reading.header;
     let samples = reading.samples.chunks(header.samples_per_scan.max(1) as usize);
     let body = record.blocks.concat();
     let course = course(body.chunks(header.bytes_per_scan as usize).take(samples.len()));
+    let mut gathered = Gathered::new();
+    for (&(time, scan_type), samples) in course.scans.iter().zip(samples) {
+        for (slot, sample) in types[scan_type - 1].iter().zip(samples) {
+            gather(&mut gathered, slot, time, sample);
+        }
+    }
+    (course, gathered)
+}
+
+/// A trace as the tape has it: its samples, and the slots of its subscans in its scan type.
+struct OnTape<'a> {
+    scan_type: usize,
+    slots: Vec<&'a Slot>,
+    samples: &'a [Sample],
+}
+
+/// The traces that have samples: as many as their blocks hold, or what is left of them where the body stopped.
+fn on_tape<'a>(
+    record: &Record,
+    reading: &'a Reading,
+    types: &'a [Vec<Slot>],
+) -> Result<Vec<OnTape<'a>>, Refusal> {
+    let width = segd::format(reading.header.code).map_or(8, |row| row.width as usize);
+    let (mut rest, mut traces) = (&reading.samples[..], Vec::new());
+    for (n, block) in (0..).zip(&record.blocks) {
+        let held = block.len().saturating_sub(TRACE_HEADER) * 8 / width;
+        let (samples, after) = rest.split_at(held.min(rest.len()));
+        if samples.is_empty() {
+            break;
+        }
+        rest = after;
+        let segd::TracePlace { scan_type, set, channel, .. } =
+            segd::trace_place(record.header, n, 0)?;
+        let subscans = segd::descriptor(record.header, scan_type, set)?.subscans();
+        let slot = |subscan| {
+            let place = Place { set, channel, subscan };
+            let k = segd::sample_index(record.header, scan_type, place)?;
+            Ok(&types[scan_type as usize - 1][k as usize])
+        };
+        let slots = (0..subscans).map(slot).collect::<Result<_, _>>()?;
+        traces.push(OnTape { scan_type: scan_type as usize, slots, samples });
+    }
+    Ok(traces)
+}
+
+/// A demultiplexed record: the first trace of each scan type says how many scans that has.
+fn of_traces(
+    record: &Record,
+    reading: &Reading,
+    types: &[Vec<Slot>],
+) -> Result<(Course, Gathered), Refusal> {
+    let traces = on_tape(record, reading, types)?;
+    let mut counts = Vec::new();
+    for trace in &traces {
+        if trace.scan_type > counts.len() {
+            counts.push(trace.samples.len().div_ceil(trace.slots.len()));
+        }
+    }
+    let first = record.blocks.first().and_then(|block| block.get(6..9));
+    let first = first.map_or(0, |t| u32::from_be_bytes([0, t[0], t[1], t[2]]));
+    let course = even_course(first.into(), &counts, scan_time(&reading.header));
+    let mut gathered = Gathered::new();
+    for trace in &traces {
+        let from = course.scans.iter().filter(|(_, scan_type)| *scan_type == trace.scan_type);
+        for ((time, _), samples) in from.zip(trace.samples.chunks(trace.slots.len())) {
+            for (slot, sample) in trace.slots.iter().zip(samples) {
+                gather(&mut gathered, slot, *time, sample);
+            }
+        }
+    }
+    Ok((course, gathered))
+}
+
+/// The traces of a record as far as it was read.
+pub fn traces(record: &Record, reading: &Reading) -> Result<Traces, Refusal> {
+    let header = &reading.header;
     let types = (1..=header.scan_types.into())
         .map(|scan_type| slots(record.header, header, scan_type))
         .collect::<Result<Vec<_>, _>>()?;
-    let mut gathered: BTreeMap<(u32, u32), Vec<Point>> = BTreeMap::new();
-    for (&(time, scan_type), samples) in course.scans.iter().zip(samples) {
-        for (slot, sample) in types[scan_type - 1].iter().zip(samples) {
-            let point = Point { time: time + slot.delay, value: sample.value() * slot.factor };
-            gathered.entry((slot.set, slot.channel)).or_default().push(point);
-        }
-    }
+    // Only a demultiplexed record has no bytes per scan.
+    let (course, gathered) = if header.bytes_per_scan == 0 {
+        of_traces(record, reading, &types)?
+    } else {
+        of_scans(record, reading, &types)
+    };
+    let scans = match header.bytes_per_scan {
+        0 => course.scans.len(),
+        _ => reading.samples.len() / header.samples_per_scan.max(1) as usize,
+    };
     let trace = |((set, channel), mut points): ((u32, u32), Vec<Point>)| {
         points.sort_by_key(|point| point.time);
         Trace { set, channel, level: level(&points), points }
@@ -156,7 +264,7 @@ pub fn traces(record: &Record, reading: &Reading) -> Result<Traces, Refusal> {
     let all = gathered.into_iter().map(trace).collect();
     let (scan, skew_recorded) = (scan_time(header), header.skew_fields > 0);
     let to = course.scans.last().map_or(0, |(time, _)| time + scan);
-    Ok(Traces { all, course, scan, from: 0, to, skew_recorded })
+    Ok(Traces { all, course, scans, scan, from: 0, to, skew_recorded })
 }
 
 #[cfg(test)]
@@ -217,6 +325,29 @@ mod tests {
         };
         assert_eq!(points(0), [(0.0, 4.0), (1.0, 0.0), (2.0, 4.0), (3.0, 0.0)]);
         assert_eq!(points(1), [(0.0, -4.0), (1.0, 0.0), (2.0, -4.0), (3.0, 0.0)]);
+    }
+
+    /// The paper's example 6, demultiplexed as it is read: each channel has the points that it has of scans.
+    #[test]
+    fn a_demultiplexed_record_has_the_same_points() {
+        let (scans, traces) = (image("switched"), image("switched_traces"));
+        let [scans, traces] = [&scans, &traces].map(|image| traces_of(&records(image).0[0]));
+        assert_eq!((traces.scans, scans.scans), (8, 8));
+        assert_eq!(traces.course.switches, scans.course.switches);
+        assert_eq!(traces.all.len(), scans.all.len());
+        for (ours, theirs) in traces.all.iter().zip(&scans.all) {
+            assert_eq!((ours.set, ours.channel), (theirs.set, theirs.channel));
+            assert_eq!(ours.points, theirs.points);
+        }
+    }
+
+    /// T starts again in the second of three scans of 8 ms.
+    #[test]
+    fn the_timing_word_of_traces_starts_again() {
+        let course = even_course((1 << 24) - 1024, &[1, 2], (8.0 * MS) as i64);
+        assert_eq!(course.restarts.iter().map(|t| ms(*t)).collect::<Vec<_>>(), [4.0]);
+        assert_eq!(course.switches, [((8.0 * MS) as i64, 2)]);
+        assert_eq!(course.scans.len(), 3);
     }
 
     #[test]

@@ -7,32 +7,11 @@ use Rattle.deck.proofs.bodies.segd_close.Tie as tie
 close-requires : tie.Need-close-requires
 close-requires c κs = search needs
 
-why-requires : tie.Need-why-requires
-why-requires c κs = search needs
-
-itb-known-requires : tie.Need-itb-known-requires
-itb-known-requires c κs = search needs
-
-itb-bit-requires : tie.Need-itb-bit-requires
-itb-bit-requires c κs = search needs
-
-window-known-requires : tie.Need-window-known-requires
-window-known-requires c κs = search needs
-
-window-at-requires : tie.Need-window-at-requires
-window-at-requires c κs = search needs
+closing-requires : tie.Need-closing-requires
+closing-requires c κs = search needs
 
 returns : tie.Need-returns
-returns c = rw (← c .before .before .before .before .before .before .close .ensures, c .before .before .before .before .why .ensures, c .before .before .before .itb-known .ensures, c .before .before .itb-bit .ensures, c .before .window-known .ensures, c .window-at .ensures)
+returns c = rw (← c .before .close .ensures) (c .closing .ensures)
 
 pub segd-close-spec : {M : Type 1} → statement M
-segd-close-spec =
-    tie.close
-    (tie.spec
-    close-requires
-    why-requires
-    itb-known-requires
-    itb-bit-requires
-    window-known-requires
-    window-at-requires
-    returns)
+segd-close-spec = tie.close (tie.spec close-requires closing-requires returns)

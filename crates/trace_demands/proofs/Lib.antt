@@ -1,0 +1,14 @@
+pub mod Idles
+pub mod TraceStops
+pub mod Outputs
+pub mod TracePortions
+pub mod Scans
+pub mod TraceTold
+pub mod Orders
+pub mod Placings
+pub mod Headers
+pub mod Words
+pub mod Samples
+pub mod Sums
+pub mod Totals
+pub mod TraceDemands

@@ -1,0 +1,10 @@
+pub mod Bodies
+pub mod Instances
+pub mod Told
+pub mod TraceDemand1
+pub mod Order
+pub mod TracePlaces
+pub mod TraceHeaders
+pub mod TraceWords
+pub mod TraceDemand2
+pub mod TraceDemand3
