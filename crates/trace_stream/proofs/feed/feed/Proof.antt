@@ -4,7 +4,6 @@ use Prim.Native.Nat.{_-_}
 use mathlib.Core.Path.{_≡_}
 use denote.Ref.{now}
 use lib.ListN.{length}
-use Rattle.trace.specs.Step.{stepOn}
 use Rattle.trace_stream.specs.Calls.{fed}
 use Rattle.trace_stream.proofs.Going.{Going, going-start, going-quiet, going-wrote, going-end, by-look, group-look}
 use native.Mathlib.Omega.{arith}
