@@ -1,10 +1,12 @@
 // The bytes of a header block, counted from 1 as on the page, and the numbers that they write. Every reader takes any place:
 // past the end stands 0, so that no caller has to know a length first.
+#![tactic(auto)]
+
 ghost use Rattle.std.specs.Prelude.{◌≡◌, ◌+◌, ◌-◌, ◌<◌};
 ghost use Rattle.block.specs.Bytes.{is_pair, pair_of, packed_of, byte, upper, lower, pair, decimal, three_digits, binary, pairs};
 
 // A packed pair of digits, or none.
-#[derive(Drop)]
+#[derive(Clone, Copy)]
 pub enum Pair {
     Digits(u8),
     NoPair,

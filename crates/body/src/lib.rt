@@ -1,4 +1,6 @@
 // The multiplexed body of a record, streamed: its opening, its block ends and its closing. `stream` takes its bytes.
+#![tactic(auto)]
+
 mod begin;
 mod ends;
 
@@ -11,7 +13,7 @@ use scan::State;
 use stream::{Answer, Gave};
 
 // What opening on a header block answers: what its body is made of, or the header's refusal.
-#[derive(Drop)]
+#[derive(Clone, Copy)]
 pub enum Opening {
     Scans,
     // a demultiplexed record: it has no body of scans
@@ -19,27 +21,27 @@ pub enum Opening {
     Refused(Refusal),
 }
 
-#[derive(Drop)]
+#[derive(Clone, Copy)]
 pub struct Opened {
     pub state: State,
     pub answer: Opening,
 }
 
 // ITB of the first scan; none only where the closing is refused.
-#[derive(Drop)]
+#[derive(Clone, Copy)]
 pub enum Itb {
     None,
     Bit(u32),
 }
 
 // T of the first scan with TWI set.
-#[derive(Drop)]
+#[derive(Clone, Copy)]
 pub enum Window {
     None,
     At(u32),
 }
 
-#[derive(Drop)]
+#[derive(Clone, Copy)]
 pub struct Report {
     pub scans: u32,
     pub samples: u64,
@@ -50,14 +52,14 @@ pub struct Report {
 }
 
 // What the closing question answers.
-#[derive(Drop)]
+#[derive(Clone, Copy)]
 pub enum Closed {
     Whole,
     Refused(Refusal),
 }
 
 // The report is all zero and none where the closing is refused.
-#[derive(Drop)]
+#[derive(Clone, Copy)]
 pub struct Closing {
     pub answer: Closed,
     pub report: Report,

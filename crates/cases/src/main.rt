@@ -1,4 +1,6 @@
 // Lists each reel image of data/ that an argument names, under its name.
+#![tactic(auto)]
+
 use libc::STDOUT_FILENO;
 
 fn list_named(i: usize) {

@@ -1,9 +1,11 @@
 // The twelve format codes, one row each, and what a row says of the bytes on tape.
+#![tactic(auto)]
+
 ghost use Rattle.std.specs.Prelude.{◌≡◌, ◌≤◌};
 ghost use Rattle.codes.specs.Codes.{row_of, group_in, group_of, bits_of};
 
 // How a fraction is kept: its negatives complemented; with a sign beside it; or with a sign, and left justified in hexadecimal digits.
-#[derive(Drop)]
+#[derive(Clone, Copy)]
 pub enum Kind {
     OnesComplement,
     SignMagnitude,
@@ -11,7 +13,7 @@ pub enum Kind {
 }
 
 // One row of the table.
-#[derive(Drop)]
+#[derive(Clone, Copy)]
 pub struct Row {
     // the sixteen bits on the tape
     pub code: u16,
@@ -31,7 +33,7 @@ pub struct Row {
 }
 
 // The row of a code; nothing where it is not among the twelve.
-#[derive(Drop)]
+#[derive(Clone, Copy)]
 pub enum Found {
     At(Row),
     Nothing,

@@ -17,7 +17,7 @@ use stream::{Answer, Gave};
 // 1: a body of scans, 2: one of traces, and the state before its first byte; 0: the header's refusal. The state of the other kind, or with 0 of
 // both, is all 0, which every call refuses.
 #[repr(C)]
-#[derive(Drop)]
+#[derive(Clone, Copy)]
 pub struct SegdOpened {
     pub refusal: Told,
     pub kind: u8,
@@ -57,7 +57,7 @@ pub extern "C" fn segd_open(block: &[u8]) -> SegdOpened
 
 // The state after the call; 0 going on, 1 stopped, 2 refused with nothing changed; why, and the samples written.
 #[repr(C)]
-#[derive(Drop)]
+#[derive(Clone, Copy)]
 pub struct SegdGave {
     pub state: State,
     pub outcome: u32,
@@ -136,7 +136,7 @@ pub extern "C" fn segd_block_end(state: State) -> SegdGave
 
 // The report; or a refusal, with the report all 0. `itb_known` and `window_known` are 0 where there is none.
 #[repr(C)]
-#[derive(Drop)]
+#[derive(Clone, Copy)]
 pub struct SegdClosing {
     pub refusal: Told,
     pub scans: u32,

@@ -12,7 +12,7 @@ use sets::ChannelSet;
 
 // A digit pair; `found` is 0 where a half of the byte is no digit.
 #[repr(C)]
-#[derive(Drop)]
+#[derive(Clone, Copy)]
 pub struct SegdPair {
     pub found: u8,
     pub value: u8,
@@ -31,7 +31,7 @@ pub extern "C" fn segd_packed(byte: u8) -> SegdPair
 
 // An accepted header's fields; or a refusal, with the fields all 0.
 #[repr(C)]
-#[derive(Drop)]
+#[derive(Clone, Copy)]
 pub struct SegdHeader {
     pub refusal: Told,
     pub header: Header,
@@ -85,7 +85,7 @@ pub extern "C" fn segd_read_header(block: &[u8]) -> SegdHeader
 
 // A channel set's fields; or a refusal, with the fields all 0.
 #[repr(C)]
-#[derive(Drop)]
+#[derive(Clone, Copy)]
 pub struct SegdChannelSet {
     pub refusal: Told,
     pub set: ChannelSet,

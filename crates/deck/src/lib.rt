@@ -1,5 +1,7 @@
 // The calls that a deck's firmware links, in C's terms: numbers, slices as a pointer and a length, structs of numbers. Each is a
 // call of a library below, most by the same name, its answer laid flat.
+#![tactic(auto)]
+
 ghost use Rattle.std.specs.Prelude.{◌≡◌};
 ghost use Rattle.codes.specs.Codes.{row_of};
 ghost use Rattle.words.specs.Words.{word_of};
@@ -45,7 +47,7 @@ fn flat_fault(fault: Fault) -> Told
 
 // A format's row; `found` is 0, and so is all else, where there is no such code.
 #[repr(C)]
-#[derive(Drop)]
+#[derive(Clone, Copy)]
 pub struct SegdFormat {
     pub found: u8,
     // 1: negatives complemented; 2: sign and magnitude; 3: the same, left justified
@@ -102,7 +104,7 @@ pub extern "C" fn segd_format(code: u16) -> SegdFormat
 
 // A word's sample M x 2^X and its off-rule mark; or a refusal, with the rest 0. `refusal.number` is 0 where it is a sample.
 #[repr(C)]
-#[derive(Drop)]
+#[derive(Clone, Copy)]
 pub struct SegdWord {
     pub refusal: Told,
     pub m: i32,

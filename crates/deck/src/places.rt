@@ -16,7 +16,7 @@ use skew::{Skewed, Timed};
 
 // Sample k of a scan; 0 where it is refused.
 #[repr(C)]
-#[derive(Drop)]
+#[derive(Clone, Copy)]
 pub struct SegdIndex {
     pub refusal: Told,
     pub k: u32,
@@ -47,7 +47,7 @@ pub extern "C" fn segd_sample_index(
 
 // A sample's set, channel and subscan; 0 where it is refused.
 #[repr(C)]
-#[derive(Drop)]
+#[derive(Clone, Copy)]
 pub struct SegdPlace {
     pub refusal: Told,
     pub set: u32,
@@ -82,7 +82,7 @@ pub extern "C" fn segd_sample_place(block: &[u8], scan_type: u32, k: u32) -> Seg
 
 // A part of the block: how many bytes come before it, and how many it has.
 #[repr(C)]
-#[derive(Drop)]
+#[derive(Clone, Copy)]
 pub struct SegdPart {
     pub refusal: Told,
     pub offset: u64,
@@ -137,7 +137,7 @@ pub extern "C" fn segd_external(block: &[u8]) -> SegdPart
 
 // The skew bytes of a scan type: whether they stand in the sheet, how many bytes come before them there, and how many they are.
 #[repr(C)]
-#[derive(Drop)]
+#[derive(Clone, Copy)]
 pub struct SegdSkew {
     pub refusal: Told,
     pub of_sheet: u8,
@@ -172,7 +172,7 @@ pub extern "C" fn segd_skew(block: &[u8], sheet: &[u8], scan_type: u32) -> SegdS
 
 // A sample's skew byte.
 #[repr(C)]
-#[derive(Drop)]
+#[derive(Clone, Copy)]
 pub struct SegdByte {
     pub refusal: Told,
     pub value: u8,
@@ -197,7 +197,7 @@ pub extern "C" fn segd_skew_at(block: &[u8], sheet: &[u8], scan_type: u32, k: u3
 
 // A sample's time, in 1/4096 ms.
 #[repr(C)]
-#[derive(Drop)]
+#[derive(Clone, Copy)]
 pub struct SegdTime {
     pub refusal: Told,
     pub time: u32,

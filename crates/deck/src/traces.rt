@@ -15,7 +15,7 @@ use turns::Placed;
 
 // As SegdGave, with the state of a trace body.
 #[repr(C)]
-#[derive(Drop)]
+#[derive(Clone, Copy)]
 pub struct SegdTraceGave {
     pub state: State,
     pub outcome: u32,
@@ -67,7 +67,7 @@ pub extern "C" fn segd_trace_close(block: &[u8], state: State) -> SegdClosing
 
 // Whose a sample of a trace is: scan type, set and channel from 1, scan and subscan from 0; all 0 where it is refused.
 #[repr(C)]
-#[derive(Drop)]
+#[derive(Clone, Copy)]
 pub struct SegdTracePlace {
     pub refusal: Told,
     pub scan_type: u32,

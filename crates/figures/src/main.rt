@@ -1,4 +1,6 @@
 // The bench figures that are run and not proved: a line each, compared with the file stdout beside this folder.
+#![tactic(auto)]
+
 use words::Word;
 
 fn text(s: &[u8]) {

@@ -1,4 +1,6 @@
 // One file of a reel: its header item gathered, its blocks read as they come, and what is said of it at its mark.
+#![tactic(auto)]
+
 ghost use Rattle.std.specs.Prelude.{◌≡◌, ◌≤◌, length, take};
 ghost use Rattle.listing.specs.Lent.{stored_in};
 ghost use Rattle.files.specs.File.{gathered, part_of, buffer_after, numbers_after, told_by, closed_of, traces_at, headed, item_end, said_of};
@@ -9,7 +11,7 @@ use listing::Outcome;
 use refusals::Refusal;
 use scan::State;
 
-#[derive(Drop)]
+#[derive(Clone, Copy)]
 pub enum File {
     // no byte yet
     Empty,
@@ -41,7 +43,7 @@ pub enum File {
 }
 
 // What is said of a file at its mark: nothing of one that has no item.
-#[derive(Drop)]
+#[derive(Clone, Copy)]
 pub enum AtMark {
     Nothing,
     Line(Outcome),

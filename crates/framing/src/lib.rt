@@ -1,11 +1,13 @@
 // The framing of a reel image, which may come in portions of any size: a version byte 1, then items, each a length
 // of four bytes and that many bytes. Length 0 is a file mark, and two in a row end the reel.
+#![tactic(auto)]
+
 ghost use Rattle.std.specs.Prelude.{◌≡◌, ◌<◌, [], ◌∷◌};
 ghost use Rattle.framing.specs.Image.{length_of};
 ghost use Rattle.framing.specs.Next.{next_of, ending_of, after_length, passed_to, after_version, in_item, meet_of};
 
 // Where in an image a reader stands. Every value is a place in some image.
-#[derive(Drop)]
+#[derive(Clone, Copy)]
 pub enum Frame {
     // before the version byte
     Start,
@@ -25,7 +27,7 @@ pub enum Frame {
 
 // What the bytes passed over were: the framing's own, bytes of an item that goes on, bytes of an
 // item with its last, or the last byte of a mark.
-#[derive(Drop)]
+#[derive(Clone, Copy)]
 pub enum Met {
     Framing,
     Part,
@@ -34,7 +36,7 @@ pub enum Met {
 }
 
 // The reader's new place, the place of the portion that it came to, and what it passed.
-#[derive(Drop)]
+#[derive(Clone, Copy)]
 pub struct Step {
     pub frame: Frame,
     pub to: usize,
@@ -42,7 +44,7 @@ pub struct Step {
 }
 
 // How a reel ends: with two marks, early, or at once since its version is not 1.
-#[derive(Drop)]
+#[derive(Clone, Copy)]
 pub enum Ending {
     Ok,
     Cut,

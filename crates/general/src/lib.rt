@@ -1,4 +1,6 @@
 // The general header: refusals 1 to 6, in the order of the description's table.
+#![tactic(auto)]
+
 ghost use Rattle.std.specs.Prelude.{◌≡◌, ◌<◌};
 ghost use Rattle.codes.specs.Codes.{row_of};
 ghost use Rattle.general.specs.General.{unknown, general_digits, within, time_in_range, is_interval, scan_in_range, counts_in_range, fields_before, header_length, general_fault};

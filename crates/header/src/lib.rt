@@ -1,4 +1,6 @@
 // The header block of a record: accepted with its fields, or refused, and the descriptor of each channel set.
+#![tactic(auto)]
+
 ghost use Rattle.std.specs.Prelude.{◌≡◌};
 ghost use Rattle.sets.specs.Samples.{samples_of};
 ghost use Rattle.header.specs.Faults.{size_holds, sizes_fault, skew_holds, header_fault};
@@ -10,7 +12,7 @@ use sets::{ChannelSet, samples};
 
 // What an accepted header says.
 #[repr(C)]
-#[derive(Drop)]
+#[derive(Clone, Copy)]
 pub struct Header {
     pub file: u16,
     // the format code's sixteen bits
@@ -43,14 +45,14 @@ pub struct Header {
     pub samples_per_scan: u32,
 }
 
-#[derive(Drop)]
+#[derive(Clone, Copy)]
 pub enum Answer {
     Accepted(Header),
     Refused(Refusal),
 }
 
 // What asking for a channel set answers.
-#[derive(Drop)]
+#[derive(Clone, Copy)]
 pub enum Described {
     Set(ChannelSet),
     NoSet(Refusal),

@@ -1,5 +1,7 @@
 // The bench figures of headers and of the samples that they place, run and not proved: a line each, compared with the file stdout
 // beside this folder.
+#![tactic(auto)]
+
 mod answers;
 mod files;
 mod print;

@@ -1,5 +1,7 @@
 // Which sample of a scan is which: its number k, and its set, channel and subscan. A question takes any block, and the header's
 // refusals come first. Scan types, sets and channels count from 1 in a question and from 0 inside, subscans and samples always from 0.
+#![tactic(auto)]
+
 ghost use Rattle.std.specs.Prelude.{◌≡◌, true, ◌<◌, ◌≤◌, leb};
 ghost use Rattle.basis.specs.Choice.{pick};
 ghost use Rattle.refusals.specs.declared.Fault.TheVariants.{Clear};
@@ -14,14 +16,14 @@ use refusals::{Fault, Refusal};
 use sets::{channels, samples, samples_before, subscans};
 
 // What asking for the number of a channel's sample answers.
-#[derive(Drop)]
+#[derive(Clone, Copy)]
 pub enum Index {
     Sample(u32),
     NoSample(Refusal),
 }
 
 // What asking for the place of sample k answers.
-#[derive(Drop)]
+#[derive(Clone, Copy)]
 pub enum Place {
     Sits {
         set: u32,

@@ -1,4 +1,6 @@
 // The lister: a reel image that comes in portions, a line for each file, and the last line.
+#![tactic(auto)]
+
 ghost use Rattle.std.specs.Prelude.{◌≡◌, ◌<◌, true, length};
 ghost use Rattle.std.proofs.lemmas.List.Edits.{sets};
 ghost use Rattle.io.specs.Counts.{IsPrefixLen};
@@ -15,7 +17,7 @@ use libc::{EINTR, STDOUT_FILENO};
 
 // The file that stands after an answer of `framing::next` was heard, how many files have a line, and
 // where the lines end in their buffer.
-#[derive(Drop)]
+#[derive(Clone, Copy)]
 struct Heard {
     file: File,
     count: u64,
@@ -23,7 +25,7 @@ struct Heard {
 }
 
 // How far a reel has been read: the framing, the present file, and how many files have a line.
-#[derive(Drop)]
+#[derive(Clone, Copy)]
 pub struct Progress {
     pub frame: Frame,
     pub file: File,
@@ -32,7 +34,7 @@ pub struct Progress {
 
 // How far the reel has been read after a step, the place in the portion that it came to, and where
 // the lines end in their buffer.
-#[derive(Drop)]
+#[derive(Clone, Copy)]
 struct Turn {
     progress: Progress,
     to: usize,
@@ -40,14 +42,14 @@ struct Turn {
 }
 
 // How far the reel has been read after a portion, and how many bytes of lines it made.
-#[derive(Drop)]
+#[derive(Clone, Copy)]
 pub struct Made {
     pub progress: Progress,
     pub length: usize,
 }
 
 // What a read brought: whether the input is over, and how many bytes.
-#[derive(Drop)]
+#[derive(Clone, Copy)]
 struct Arrival {
     over: bool,
     bytes: usize,

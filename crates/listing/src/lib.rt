@@ -1,4 +1,6 @@
 // The text of the lister's lines: one for each record, and the last.
+#![tactic(auto)]
+
 ghost use Rattle.std.specs.Prelude.{◌≡◌, ◌+◌, ◌%◌, ◌≤◌, ◌<◌, ◌++◌, length, ltb, leb};
 ghost use Rattle.std.proofs.lemmas.List.Edits.{sets};
 ghost use Rattle.io.specs.Digits.{last_digits, hex_digit_ascii};
@@ -11,7 +13,7 @@ use refusals::Refusal;
 
 // What the lister says of a file: its file number, format code and counts, or why it was refused
 // and how long its body was by then.
-#[derive(Drop)]
+#[derive(Clone, Copy)]
 pub enum Outcome {
     Listed {
         file: u16,

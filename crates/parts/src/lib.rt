@@ -1,5 +1,7 @@
 // The parts of a header block, handed out as parts of the slice that the caller lent.
 // Every question takes any block. A refused one hands out an empty part, and `header::header_fault` tells the refusal.
+#![tactic(auto)]
+
 ghost use Rattle.std.specs.Prelude.{◌≡◌, ◌+◌, ◌≤◌, ◌<◌, ◌^◌, length};
 ghost use Rattle.parts.specs.Slices.{slice, part};
 ghost use Rattle.parts.specs.Parts.{extended_place, constants_part, extended_part, external_part};

@@ -1,8 +1,10 @@
 // What is turned away: the rows of the description's table, by name, each with the values that its row names.
+#![tactic(auto)]
+
 ghost use Rattle.std.specs.Prelude.{◌≡◌};
 ghost use Rattle.refusals.specs.Table.{told, stop_refusal};
 
-#[derive(Drop)]
+#[derive(Clone, Copy)]
 pub enum Refusal {
     Short,
     Format,
@@ -37,7 +39,7 @@ pub enum Refusal {
 }
 
 // One rule looked at: kept, or broken with the refusal that it brings.
-#[derive(Drop)]
+#[derive(Clone, Copy)]
 pub enum Fault {
     Clear,
     At(Refusal),
@@ -45,7 +47,7 @@ pub enum Fault {
 
 // A refusal in numbers, for a listing or a caller in C: its row's number, and its values in order, 0 where it has fewer. Of number 8 the third is the place of a stop, and 0 where the header is refused.
 #[repr(C)]
-#[derive(Drop)]
+#[derive(Clone, Copy)]
 pub struct Told {
     pub number: u32,
     pub first: u32,

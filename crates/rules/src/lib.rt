@@ -1,1 +1,2 @@
 // The rules of an uncut body: definitions only (specs/), and laws about them (proofs/).
+#![tactic(auto)]

@@ -1,4 +1,6 @@
 // Whole sample words, read one after another. 0024, 0044 and 0048 share a loop, which the compiler makes anew for each of them, and 0015 has its own: the decoders are made of constants; 0022 and 0042 share one, over the table that they are lent. And four bytes as one number, for `stream`.
+#![tactic(auto)]
+
 ghost use Rattle.std.specs.Prelude.{◌≡◌, min, ◌+◌, ◌*◌, ◌/◌, ◌%◌, ◌≤◌, ◌<◌, length, set};
 ghost use Rattle.basis.specs.Digits.{written, byte_in};
 ghost use Rattle.words.specs.Words.{value_of, off_one};
@@ -9,7 +11,7 @@ ghost use Rattle.runs.specs.Runs.{offs, numbers, over, ran, filled};
 use words::{Value, tables};
 
 // What a run came to: the samples that it wrote, and how many of their words are off rule.
-#[derive(Drop)]
+#[derive(Clone, Copy)]
 pub struct Ran {
     pub samples: usize,
     pub off: usize,

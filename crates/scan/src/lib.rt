@@ -1,4 +1,6 @@
 // The body reader's state: what the header says of a body, what its scans told so far, and where its reading stands.
+#![tactic(auto)]
+
 ghost use Rattle.std.specs.Prelude.{◌≡◌, ◌≤◌};
 ghost use Rattle.scan.specs.Fit.{wholeb, limitsb, shape_by, stopb, trackb, countsb, fit_by, fitb};
 
@@ -6,7 +8,7 @@ use words::Value;
 
 // What the header says of the body.
 #[repr(C)]
-#[derive(Drop)]
+#[derive(Clone, Copy)]
 pub struct Shape {
     pub code: u16,
     // B, the bytes of a scan
@@ -21,7 +23,7 @@ pub struct Shape {
 
 // What the starts of the scans told so far.
 #[repr(C)]
-#[derive(Drop)]
+#[derive(Clone, Copy)]
 pub struct Track {
     // the last timing word, in the top three bytes
     pub timing: u32,
@@ -36,7 +38,7 @@ pub struct Track {
 
 // Scans, samples and the place in a scan are not kept: `place` gives them.
 #[repr(C)]
-#[derive(Drop)]
+#[derive(Clone, Copy)]
 pub struct State {
     pub shape: Shape,
     // the bytes so far
@@ -56,7 +58,7 @@ pub struct State {
 }
 
 // What one byte comes to: the next state, and the sample that it completed, if it did.
-#[derive(Drop)]
+#[derive(Clone, Copy)]
 pub struct Stepped {
     pub state: State,
     pub completed: bool,

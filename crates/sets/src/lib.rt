@@ -1,5 +1,7 @@
 // The channel set descriptors of a header block: refusals 7 and 8, the fields of each, and the samples of a scan.
 // Scan types t and sets s count from 0 here. Every question takes any numbers: past the block's end its bytes read as 0.
+#![tactic(auto)]
+
 ghost use Rattle.std.specs.Prelude.{◌≡◌, ◌^◌, ◌<◌};
 ghost use Rattle.codes.specs.Codes.{per_of};
 ghost use Rattle.sets.specs.Descriptors.{descriptor_place, descriptor_at, descriptor_holds, four_holds, set_fault, scan_type_fault, descriptors_fault};
@@ -12,7 +14,7 @@ use refusals::{Fault, Refusal};
 
 // What a channel set descriptor says.
 #[repr(C)]
-#[derive(Drop)]
+#[derive(Clone, Copy)]
 pub struct ChannelSet {
     // the set's first and last time, in 2 ms
     pub start: u16,

@@ -1,5 +1,7 @@
 // The skew bytes of a header block or of the crew's sheet lent beside it, and what they say of a sample.
 // Every question takes any block and sheet. Where the skew bytes are refused `skew` hands out an empty part, and `skew_fault` tells why; the others answer their refusal.
+#![tactic(auto)]
+
 ghost use Rattle.std.specs.Prelude.{◌≡◌, ◌+◌, ◌-◌, ◌≤◌, ◌<◌, ◌^◌, length};
 ghost use Rattle.refusals.specs.declared.Fault.TheVariants.{Clear};
 ghost use Rattle.sets.specs.Samples.{samples_of};
@@ -15,14 +17,14 @@ use refusals::{Fault, Refusal};
 use sets::samples;
 
 // What asking for a sample's skew byte answers.
-#[derive(Drop)]
+#[derive(Clone, Copy)]
 pub enum Skewed {
     Skew(u8),
     NoSkew(Refusal),
 }
 
 // What asking for a sample's time answers, in 1/4096 ms.
-#[derive(Drop)]
+#[derive(Clone, Copy)]
 pub enum Timed {
     Time(u32),
     NoTime(Refusal),

@@ -1,4 +1,6 @@
 // A portion of a multiplexed body's bytes: a state by value comes in and goes out, samples go to what is lent.
+#![tactic(auto)]
+
 mod bulk;
 mod byte;
 mod feed;
@@ -12,7 +14,7 @@ use refusals::Refusal;
 use scan::State;
 
 // What a portion or a block end answers.
-#[derive(Drop)]
+#[derive(Clone, Copy)]
 pub enum Answer {
     GoingOn { samples: usize },
     // one of 14 to 18, with its place
@@ -22,14 +24,14 @@ pub enum Answer {
 }
 
 // A call's answer, with the state after it.
-#[derive(Drop)]
+#[derive(Clone, Copy)]
 pub struct Gave {
     pub state: State,
     pub answer: Answer,
 }
 
 // Some bytes at once: the state after them, and how many numbers they wrote.
-#[derive(Drop)]
+#[derive(Clone, Copy)]
 struct Chunk {
     state: State,
     count: usize,

@@ -1,4 +1,6 @@
 // The body of a demultiplexed record, "each trace is one block": the reader's state, the states fit for a header block, and what a call answers. The header block is lent at every call.
+#![tactic(auto)]
+
 mod fit;
 
 ghost use Rattle.std.specs.Prelude.{◌≡◌, ◌≤◌};
@@ -13,7 +15,7 @@ use words::Value;
 
 // The state between two calls. Which trace is read, and so its scan type, set and channel, follow from `ends` and the header block.
 #[repr(C)]
-#[derive(Drop)]
+#[derive(Clone, Copy)]
 pub struct State {
     pub code: u16,
     // the bytes so far
@@ -39,7 +41,7 @@ pub struct State {
 }
 
 // What one byte comes to: the next state, and the sample that it completed, if it did.
-#[derive(Drop)]
+#[derive(Clone, Copy)]
 pub struct Stepped {
     pub state: State,
     pub completed: bool,
@@ -47,7 +49,7 @@ pub struct Stepped {
 }
 
 // What the header says of the present trace: worked out once a call, since no portion goes past a block end.
-#[derive(Drop)]
+#[derive(Clone, Copy)]
 pub struct Look {
     // bytes of a group of words
     pub group: u32,
@@ -57,7 +59,7 @@ pub struct Look {
 }
 
 // A call's answer, with the state after it.
-#[derive(Drop)]
+#[derive(Clone, Copy)]
 pub struct Gave {
     pub state: State,
     pub answer: Answer,

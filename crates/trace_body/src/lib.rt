@@ -1,4 +1,6 @@
 // The body of a demultiplexed record, streamed: its opening, its block ends, each the end of a trace, and its closing. `trace_stream` takes its bytes.
+#![tactic(auto)]
+
 mod closing;
 mod ends;
 

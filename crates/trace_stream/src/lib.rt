@@ -1,4 +1,6 @@
 // A portion of a trace body's bytes: a state by value comes in and goes out, samples go to what is lent. No portion passes a block end, so it is of one trace.
+#![tactic(auto)]
+
 mod byte;
 mod feed;
 

@@ -1,5 +1,7 @@
 // Whose turn a trace of a demultiplexed record is: its scan type, set and channel, by the header block. All count from 0, save in the answer of `place`, which is for callers.
 // Every function takes any block: what a trace past the last one gets is fixed by the definitions, and `place` refuses it.
+#![tactic(auto)]
+
 ghost use Rattle.std.specs.Prelude.{◌≡◌, ◌<◌, ◌≤◌};
 ghost use Rattle.turns.specs.Turns.{traces_of, trace_count, type_at, set_in, turn_in, turn_at, subscans_at, skew_at};
 ghost use Rattle.turns.specs.Places.{sample_of, placed_at};
@@ -10,14 +12,14 @@ use refusals::{Fault, Refusal};
 use sets::{channels, samples_before, subscans};
 
 // The scan type, or the set, that a trace is in: its number, and its first trace.
-#[derive(Drop)]
+#[derive(Clone, Copy)]
 pub struct Holder {
     pub number: u8,
     pub first: u32,
 }
 
 // A trace's turn.
-#[derive(Drop)]
+#[derive(Clone, Copy)]
 pub struct Turn {
     pub scan_type: u8,
     pub set: u8,
@@ -132,7 +134,7 @@ pub fn skew_at(b: &[u8], u: Turn) -> u8
 }
 
 // Whose a sample of a trace is: scan type, set and channel from 1, scan and subscan from 0.
-#[derive(Drop)]
+#[derive(Clone, Copy)]
 pub enum Placed {
     Of {
         scan_type: u32,

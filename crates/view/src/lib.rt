@@ -1,5 +1,7 @@
 // A header, accepted or refused, carried about together with the block that it was read from. Each question takes the view apart and
 // asks the plain form on the block, so that its answer is the plain one's, refusals too.
+#![tactic(auto)]
+
 ghost use Rattle.std.specs.Prelude.{◌≡◌};
 ghost use Rattle.header.specs.Answers.{header_answer, descriptor_answer};
 ghost use Rattle.layout.specs.Indexes.{index_answer, place_answer};
@@ -16,7 +18,7 @@ use refusals::Fault;
 use skew::Timed;
 
 // The whole block, and what reading its header answered.
-#[derive(Drop)]
+#[derive(Clone, Copy)]
 pub struct Carried<'a> {
     block: &'a [u8],
     answer: Answer,

@@ -1,4 +1,6 @@
 // Sample words: the fraction, the exponent and the off-rule mark of a word in each of the twelve codes. Words of one byte are read from the tables of tables.rt.
+#![tactic(auto)]
+
 pub mod tables;
 
 ghost use Rattle.std.specs.Prelude.{◌≡◌, ◌<◌, ◌≤◌, ◌^◌, ◌*◌, ◌+◌, ◌-◌, ◌/◌, ◌%◌, ◌&&◌, ◌||◌, eqb, ltb, pos, neg_ℤ};
@@ -14,14 +16,14 @@ use codes::{Found, Kind, Row};
 use refusals::Refusal;
 
 // What a word is: a sample M x 2^X and whether it is off rule; or no word of the code.
-#[derive(Drop)]
+#[derive(Clone, Copy)]
 pub enum Word {
     Sample { m: i32, x: i32, off: bool },
     Refused(Refusal),
 }
 
 // The same of a word that its code has.
-#[derive(Drop)]
+#[derive(Clone, Copy)]
 pub struct Value {
     pub m: i32,
     pub x: i32,
