@@ -1,0 +1,18 @@
+-- `block::all_pairs` meets its contract.
+-- Assumes nothing.
+use Prim.Native.Nat.{◌+◌, ◌-◌, ◌≤◌}
+use mathlib.Core.Bool.{true}
+use mathlib.Core.Path.{◌≡◌, refl, sym}
+use native.Mathlib.Omega.{arith}
+use borrow.Author.Rules.{rules}
+use borrow.Author.Tests.{not-true, not-false}
+use Rattle.basis.proofs.Uptos.{upto_more, all_fails}
+use Rattle.basis.specs.Upto.{upto, all_upto}
+use Rattle.block.specs.Bytes.{pair_from, pairs}
+use Rattle.block.proofs.all_pairs.Given as goal
+
+abbrev pub invariant-loop-i : goal.invariant-loop-i
+invariant-loop-i l = (all_upto (pair_from l.b l.n) l.i ≡ true) × (l.i ≤ l.m + 1 - l.n)
+
+abbrev pub decreases-loop-i : goal.decreases-loop-i
+decreases-loop-i l = l.m + 1 - l.i

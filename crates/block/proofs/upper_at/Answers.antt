@@ -1,0 +1,10 @@
+-- `block::upper_at` meets its contract.
+-- Assumes nothing.
+use native.Mathlib.Omega.{arith}
+use borrow.Author.Rules.{rules}
+use Rattle.block.specs.Bytes.{upper}
+use Rattle.block.proofs.upper_at.Goals as goal
+
+pub returns : goal.returns
+unfolding upper
+returns c = (rw (← c.byte_at.ensures), omega arith)

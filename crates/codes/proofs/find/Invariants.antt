@@ -1,0 +1,16 @@
+-- `codes::find` meets its contract.
+-- Assumes nothing.
+use Prim.Native.Nat.{◌≤◌, ◌-◌}
+use mathlib.Core.Path.{◌≡◌, refl, sym, ◌∙◌}
+use native.Mathlib.Omega.{arith}
+use lib.ListN.{drop}
+use Rattle.codes.proofs.Search.{here, next}
+use borrow.Author.Rules.{rules}
+use Rattle.codes.specs.Codes.{row_of, find_in, table}
+use Rattle.codes.proofs.find.Given as goal
+
+abbrev pub invariant-loop-i : goal.invariant-loop-i
+invariant-loop-i l = (l.i ≤ 12) × (find_in (drop l.i table) l.code ≡ find_in table l.code)
+
+abbrev pub decreases-loop-i : goal.decreases-loop-i
+decreases-loop-i l = 12 - l.i
