@@ -1,0 +1,24 @@
+-- `listing::put_decimal` meets its contract: the kit's digits, no more than 20.
+-- Assumes nothing.
+use Prim.Native.Nat.{◌≤◌}
+use mathlib.Core.Path.{◌∙◌}
+use native.Mathlib.Omega.{arith}
+use Rattle.listing.proofs.Decimal.{at_most_20, decimal_is}
+use borrow.Author.Rules.{rules}
+use Rattle.listing.proofs.put_decimal.Goals as goal
+
+pub put-requires : goal.put-requires
+put-requires c =
+    let f = c.decimal-k in
+    let n = c.args.n in
+    let few : f.result ≤ 20 = at_most_20 n f.result (omega arith) f.ensures.1.0 in
+    omega (arith, f.ensures.0.1)
+
+pub returns : goal.returns
+returns c =
+    let f = c.decimal-k in
+    let n = c.args.n in
+    let few : f.result ≤ 20 = at_most_20 n f.result (omega arith) f.ensures.1.0 in
+    let e = f.ensures.1.1 ∙ decimal_is n f.result (omega arith) f.ensures.1.0 in
+    let g = c.put.ensures in
+    (g.0 ∙ rw e, g.1 ∙ rw e, omega (arith, f.ensures.0.1))

@@ -1,0 +1,7 @@
+-- `sets::channels` meets its contract.
+-- Assumes nothing.
+use borrow.Author.Rules.{rules}
+use Rattle.sets.proofs.channels.Goals as goal
+
+pub returns : goal.returns
+returns c = rw (c.two_pairs.ensures, c.descriptor_at-d.ensures)

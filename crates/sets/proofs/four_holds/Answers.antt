@@ -1,0 +1,9 @@
+-- `sets::four_holds` meets its contract.
+-- Assumes nothing.
+use borrow.Author.Rules.{rules}
+use Rattle.sets.specs.Descriptors.{four_holds}
+use Rattle.sets.proofs.four_holds.Goals as goal
+
+pub returns : goal.returns
+unfolding four_holds
+returns c = cc

@@ -1,0 +1,16 @@
+-- `sets::samples_before` meets its contract.
+-- Assumes nothing.
+use Prim.Native.Nat.{◌≤◌, ◌*◌, ◌-◌}
+use mathlib.Core.Path.{◌≡◌, refl}
+use native.Mathlib.Omega.{arith}
+use borrow.Author.Rules.{rules}
+use Rattle.basis.proofs.Uptos.{upto_more}
+use Rattle.basis.specs.Upto.{upto}
+use Rattle.sets.specs.Samples.{samples_before}
+use Rattle.sets.proofs.samples_before.Given as goal
+
+abbrev pub invariant-loop-s : goal.invariant-loop-s
+invariant-loop-s l = (l.initial.s ≡ samples_before l.b l.t l.s) × (l.initial.s ≤ 4294967295 * l.s) × (l.s ≤ l.n)
+
+abbrev pub decreases-loop-s : goal.decreases-loop-s
+decreases-loop-s l = l.n - l.s
