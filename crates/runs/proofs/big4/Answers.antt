@@ -1,0 +1,11 @@
+-- `runs::big4` meets its contract.
+-- Assumes nothing.
+use mathlib.Core.Path.{sym, ◌∙◌}
+use Rattle.runs.proofs.Bytes.{written_four}
+use borrow.Author.Rules.{rules}
+use Rattle.runs.proofs.big4.Goals as goal
+
+pub returns : goal.returns
+returns c =
+    let l = c.little4.ensures in
+    c.swapped4.ensures ∙ rw (l.0, l.1.0, l.1.1.0, l.1.1.1) (sym (written_four _ _))

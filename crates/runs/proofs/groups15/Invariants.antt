@@ -1,0 +1,16 @@
+-- `runs::groups15` meets its contract: its loop keeps that the first k words are written.
+-- Assumes nothing.
+use Prim.Native.Nat.{◌-◌}
+use mathlib.Core.Path.{◌∙◌}
+use native.Mathlib.Omega.{arith}
+use borrow.Author.Rules.{rules}
+use lib.ListN.{length}
+use Rattle.runs.specs.Words.{grouped_in, grouped_value}
+use Rattle.runs.proofs.Done.{Done, done_from, done_self, done_more, done_on, loop_ends}
+use Rattle.runs.proofs.groups15.Given as goal
+
+abbrev pub invariant-loop-k : goal.invariant-loop-k
+invariant-loop-k l = Done (grouped_value 0x0015 l.bytes) (grouped_in (length l.bytes)) l.out l.initial.out l.off l.initial.k l.k
+
+abbrev pub decreases-loop-k : goal.decreases-loop-k
+decreases-loop-k l = l.out - l.k

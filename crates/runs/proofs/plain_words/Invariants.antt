@@ -1,0 +1,20 @@
+-- `runs::plain_words` meets its contract: its loop keeps that the first k words are written.
+-- Assumes nothing.
+use Prim.Native.Nat.{ℕ, ◌+◌, ◌-◌, ◌*◌, ◌≤◌, ◌<◌}
+use mathlib.Core.Path.{◌≡◌}
+use native.Mathlib.Nat.{le-div_iff_mul-le}
+use native.Mathlib.Omega.{arith}
+use lib.Dec.{eqb, lit<}
+use lib.ListN.{length}
+use Rattle.basis.proofs.Choices.{pick_both}
+use Rattle.codes.specs.Codes.{row_of, find_in, table, word_bytes_in, word_bytes_of}
+use Rattle.basis.specs.Choice.{pick}
+use Rattle.runs.specs.Words.{words_in, plain_code, plain_bytes, plain_value}
+use Rattle.runs.proofs.Done.{Done, done_none, done_more, loop_ends}
+use Rattle.runs.proofs.plain_words.Given as goal
+
+abbrev pub invariant-loop-k : goal.invariant-loop-k
+invariant-loop-k l = Done (plain_value (plain_code l.code) l.w l.bytes) (words_in l.w (length l.bytes)) l.out l.initial.out l.off l.initial.k l.k
+
+abbrev pub decreases-loop-k : goal.decreases-loop-k
+decreases-loop-k l = l.out - l.k

@@ -1,0 +1,14 @@
+-- `runs::sample15` meets its contract.
+-- Assumes nothing.
+use mathlib.Core.Path.{◌∙◌}
+use native.Mathlib.Nat.{zero-add}
+use Rattle.runs.proofs.Grouped.{group_value}
+use borrow.Author.Rules.{rules}
+use Rattle.runs.proofs.sample15.Goals as goal
+
+pub returns : goal.returns
+returns c =
+    let z = c in
+    let v = rw (c.big2.ensures, z.requires.1.1.1) at c.value15-w.ensures in
+    let w = v ∙ group_value z.args.bytes.now z.args.g z.args.j z.requires.0 in
+    (rw (← w) (c.count.ensures ∙ zero-add _), rw (← w) c.put.ensures)

@@ -1,0 +1,19 @@
+-- `runs::whole_groups` meets its contract: its loop keeps that the words of the first g groups are written.
+-- Assumes nothing.
+use Prim.Native.Nat.{ℕ, ◌-◌, ◌*◌, ◌/◌, ◌≤◌}
+use mathlib.Core.Path.{◌≡◌}
+use mathlib.Core.List.{List}
+use native.Mathlib.Omega.{arith}
+use lib.IntN.{ℤ}
+use lib.ListN.{length}
+use Rattle.words.specs.declared.Value.{Value}
+use Rattle.runs.specs.Runs.{offs, numbers, over}
+use Rattle.runs.specs.Words.{grouped_in, grouped_value}
+use Rattle.runs.proofs.Done.{Done, done_none, counted_low, done_four, done_far}
+use Rattle.runs.proofs.whole_groups.Given as goal
+
+abbrev pub invariant-loop-g : goal.invariant-loop-g
+invariant-loop-g l = Done (grouped_value 0x0015 l.bytes) (grouped_in (length l.bytes)) l.n l.initial.out l.off l.initial.g (4 * l.g)
+
+abbrev pub decreases-loop-g : goal.decreases-loop-g
+decreases-loop-g l = l.n / 4 - l.g
