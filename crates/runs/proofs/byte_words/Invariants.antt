@@ -11,7 +11,7 @@ use Rattle.runs.proofs.Apart.{marked}
 use Rattle.runs.proofs.byte_words.Given as goal
 
 abbrev pub invariant-loop-k : goal.invariant-loop-k
-invariant-loop-k l = Done (tabled_at l.table l.code l.bytes) (length l.bytes) l.out l.initial.out l.initial.k (offs (tabled_at l.table l.code l.bytes) l.k) l.k
+invariant-loop-k l = Done (tabled_at l.table l.code l.bytes) (length l.bytes) l.n l.initial.out l.out (offs (tabled_at l.table l.code l.bytes) l.k) l.k
 
 abbrev pub decreases-loop-k : goal.decreases-loop-k
-decreases-loop-k l = l.out - l.k
+decreases-loop-k l = l.n - l.k

@@ -10,7 +10,7 @@ use Rattle.runs.proofs.Done.{Done, done_from, done_self, done_more, done_on, loo
 use Rattle.runs.proofs.groups15.Given as goal
 
 abbrev pub invariant-loop-k : goal.invariant-loop-k
-invariant-loop-k l = Done (grouped_value 0x0015 l.bytes) (grouped_in (length l.bytes)) l.out l.initial.out l.off l.initial.k l.k
+invariant-loop-k l = Done (grouped_value 0x0015 l.bytes) (grouped_in (length l.bytes)) l.n l.initial.out l.out l.off l.k
 
 abbrev pub decreases-loop-k : goal.decreases-loop-k
-decreases-loop-k l = l.out - l.k
+decreases-loop-k l = l.n - l.k

@@ -6,7 +6,7 @@ use Rattle.runs.proofs.Apart.{Counted, counted_none, counted_on, counted_all}
 use Rattle.runs.proofs.off_bytes.Given as goal
 
 abbrev pub invariant-loop-k : goal.invariant-loop-k
-invariant-loop-k l = Counted l.code l.bytes 0 l.n l.initial.k l.k
+invariant-loop-k l = Counted l.code l.bytes 0 l.n l.off l.k
 
 abbrev pub decreases-loop-k : goal.decreases-loop-k
 decreases-loop-k l = l.n - l.k

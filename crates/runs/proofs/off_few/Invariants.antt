@@ -6,7 +6,7 @@ use Rattle.runs.proofs.Apart.{Counted, counted_none, counted_more, counted_end}
 use Rattle.runs.proofs.off_few.Given as goal
 
 abbrev pub invariant-loop-i : goal.invariant-loop-i
-invariant-loop-i l = Counted l.code l.bytes l.k l.e l.initial.i l.i
+invariant-loop-i l = Counted l.code l.bytes l.k l.e l.off l.i
 
 abbrev pub decreases-loop-i : goal.decreases-loop-i
 decreases-loop-i l = l.e - l.i

@@ -14,7 +14,7 @@ use Rattle.runs.proofs.Done.{Done, done_none, done_more, loop_ends}
 use Rattle.runs.proofs.plain_words.Given as goal
 
 abbrev pub invariant-loop-k : goal.invariant-loop-k
-invariant-loop-k l = Done (plain_value (plain_code l.code) l.w l.bytes) (words_in l.w (length l.bytes)) l.out l.initial.out l.off l.initial.k l.k
+invariant-loop-k l = Done (plain_value (plain_code l.code) l.w l.bytes) (words_in l.w (length l.bytes)) l.n l.initial.out l.out l.off l.k
 
 abbrev pub decreases-loop-k : goal.decreases-loop-k
-decreases-loop-k l = l.out - l.k
+decreases-loop-k l = l.n - l.k

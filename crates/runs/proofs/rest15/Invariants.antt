@@ -10,7 +10,7 @@ use Rattle.runs.proofs.Done.{Done, done_none, done_more, loop_ends}
 use Rattle.runs.proofs.rest15.Given as goal
 
 abbrev pub invariant-loop-k : goal.invariant-loop-k
-invariant-loop-k l = Done (rest_value 0x0015 l.exponents l.j l.bytes) (words_in 2 (length l.bytes)) l.out l.initial.out l.off l.initial.k l.k
+invariant-loop-k l = Done (rest_value 0x0015 l.exponents l.j l.bytes) (words_in 2 (length l.bytes)) l.n l.initial.out l.out l.off l.k
 
 abbrev pub decreases-loop-k : goal.decreases-loop-k
-decreases-loop-k l = l.out - l.k
+decreases-loop-k l = l.n - l.k

@@ -13,7 +13,7 @@ use Rattle.runs.proofs.Done.{Done, done_none, counted_low, done_four, done_far}
 use Rattle.runs.proofs.whole_groups.Given as goal
 
 abbrev pub invariant-loop-g : goal.invariant-loop-g
-invariant-loop-g l = Done (grouped_value 0x0015 l.bytes) (grouped_in (length l.bytes)) l.n l.initial.out l.off l.initial.g (4 * l.g)
+invariant-loop-g l = Done (grouped_value 0x0015 l.bytes) (grouped_in (length l.bytes)) l.n l.initial.out l.out l.off (4 * l.g)
 
 abbrev pub decreases-loop-g : goal.decreases-loop-g
 decreases-loop-g l = l.n / 4 - l.g
