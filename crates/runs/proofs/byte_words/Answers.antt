@@ -48,4 +48,4 @@ unfolding ran filled samples_in words_in
 returns c =
     let e = c.least-n.ensures in
     let a = done_all c.loop-k.invariant c.loop-k-test.false in
-    (rw (div-one _, ← e, c.off_bytes-off.ensures, marked), rw (div-one _, ← e) a.1)
+    (record { value = rw (div-one _, ← e, c.off_bytes-off.ensures, marked); out_after = rw (div-one _, ← e) a.1 })

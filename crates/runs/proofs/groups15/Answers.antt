@@ -22,7 +22,7 @@ pub overflow_mul-k : goal.overflow_mul-k
 overflow_mul-k c = omega arith
 
 pub loop-k-init : goal.loop-k-init
-loop-k-init c = done_self (done_from _ _ _ _ _ (c.least-n.ensures ∙ rw c.grouped_in.ensures) (omega arith) c.whole_groups-off.ensures.0 c.whole_groups-off.ensures.1)
+loop-k-init c = done_self (done_from _ _ _ _ _ (c.least-n.ensures ∙ rw c.grouped_in.ensures) (omega arith) c.whole_groups-off.ensures.value c.whole_groups-off.ensures.out_after)
 
 pub group_exponent-requires : goal.group_exponent-requires
 unfolding grouped_in
@@ -60,5 +60,5 @@ returns c =
     let o = c in
     let z = o in
     let n = rw o.grouped_in.ensures at o.least-n.ensures in
-    let p = done_from (grouped_value 0x0015 z.args.bytes.now) _ _ _ _ n (omega arith) o.whole_groups-off.ensures.0 o.whole_groups-off.ensures.1 in
-    loop_ends grouped_in (grouped_value 0x0015) z.args.bytes.now (done_on p c.loop-k.invariant (omega arith)) c.loop-k-test.false
+    let p = done_from (grouped_value 0x0015 z.args.bytes.now) _ _ _ _ n (omega arith) o.whole_groups-off.ensures.value o.whole_groups-off.ensures.out_after in
+    (let all = loop_ends grouped_in (grouped_value 0x0015) z.args.bytes.now (done_on p c.loop-k.invariant (omega arith)) c.loop-k-test.false in (record { value = all.0; out_after = all.1 }))

@@ -40,4 +40,4 @@ loop-k-preserved c =
 pub returns : goal.returns
 returns c =
     let a = c.args in
-    loop_ends (words_in a.w) (plain_value (plain_code a.code) a.w) a.bytes.now c.loop-k.invariant c.loop-k-test.false
+    (let all = loop_ends (words_in a.w) (plain_value (plain_code a.code) a.w) a.bytes.now c.loop-k.invariant c.loop-k-test.false in (record { value = all.0; out_after = all.1 }))

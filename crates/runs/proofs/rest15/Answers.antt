@@ -68,4 +68,4 @@ shape_of-out c = c.loop-k.invariant.same
 pub returns : goal.returns
 returns c =
     let z = c in
-    loop_ends (words_in 2) (rest_value 0x0015 z.args.exponents z.args.j) z.args.bytes.now c.loop-k.invariant c.loop-k-test.false
+    (let all = loop_ends (words_in 2) (rest_value 0x0015 z.args.exponents z.args.j) z.args.bytes.now c.loop-k.invariant c.loop-k-test.false in (record { value = all.0; out_after = all.1 }))

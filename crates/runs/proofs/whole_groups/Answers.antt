@@ -43,16 +43,16 @@ unfolding grouped_in
 sample15-d-requires c = (omega arith, (omega arith, (omega arith, c.big2-exponents.ensures)))
 
 pub overflow_add-off : goal.overflow_add-off
-overflow_add-off c = omega (arith, counted_low _ c.sample15-a.ensures.0)
+overflow_add-off c = omega (arith, counted_low _ c.sample15-a.ensures.value)
 
 pub overflow_add-off-in-loop-g : goal.overflow_add-off-in-loop-g
-overflow_add-off-in-loop-g c = omega (arith, counted_low _ c.sample15-a.ensures.0, counted_low _ c.sample15-b.ensures.0)
+overflow_add-off-in-loop-g c = omega (arith, counted_low _ c.sample15-a.ensures.value, counted_low _ c.sample15-b.ensures.value)
 
 pub overflow_add-off-in-loop-g-2 : goal.overflow_add-off-in-loop-g-2
-overflow_add-off-in-loop-g-2 c = omega (arith, counted_low _ c.sample15-a.ensures.0, counted_low _ c.sample15-b.ensures.0, counted_low _ c.sample15-c.ensures.0)
+overflow_add-off-in-loop-g-2 c = omega (arith, counted_low _ c.sample15-a.ensures.value, counted_low _ c.sample15-b.ensures.value, counted_low _ c.sample15-c.ensures.value)
 
 pub overflow_add-off-in-loop-g-3 : goal.overflow_add-off-in-loop-g-3
-overflow_add-off-in-loop-g-3 c = omega (arith, counted_low _ c.sample15-a.ensures.0, counted_low _ c.sample15-b.ensures.0, counted_low _ c.sample15-c.ensures.0, counted_low _ c.sample15-d.ensures.0)
+overflow_add-off-in-loop-g-3 c = omega (arith, counted_low _ c.sample15-a.ensures.value, counted_low _ c.sample15-b.ensures.value, counted_low _ c.sample15-c.ensures.value, counted_low _ c.sample15-d.ensures.0)
 
 pub overflow_add-g : goal.overflow_add-g
 overflow_add-g c = omega arith
@@ -73,4 +73,4 @@ ends {n = n} {g = g} d h =
     rw e (done_far d)
 
 pub returns : goal.returns
-returns c = ends c.loop-g.invariant c.loop-g-test.false
+returns c = (let all = ends c.loop-g.invariant c.loop-g-test.false in (record { value = all.0; out_after = all.1 }))
