@@ -11,14 +11,14 @@ pub put-requires : goal.put-requires
 put-requires c =
     let f = c.decimal-k in
     let n = c.args.n in
-    let few : f.result ≤ 20 = at_most_20 n f.result (omega arith) f.ensures.1.0 in
-    omega (arith, f.ensures.0.1)
+    let few : f.result ≤ 20 = at_most_20 n f.result (omega arith) f.ensures.len in
+    omega (arith, f.ensures.in_bounds)
 
 pub returns : goal.returns
 returns c =
     let f = c.decimal-k in
     let n = c.args.n in
-    let few : f.result ≤ 20 = at_most_20 n f.result (omega arith) f.ensures.1.0 in
-    let e = f.ensures.1.1 ∙ decimal_is n f.result (omega arith) f.ensures.1.0 in
+    let few : f.result ≤ 20 = at_most_20 n f.result (omega arith) f.ensures.len in
+    let e = f.ensures.digits ∙ decimal_is n f.result (omega arith) f.ensures.len in
     let g = c.put.ensures in
-    (g.0 ∙ rw e, g.1 ∙ rw e, omega (arith, f.ensures.0.1))
+    (g.0 ∙ rw e, g.1 ∙ rw e, omega (arith, f.ensures.in_bounds))
