@@ -8,4 +8,4 @@ use Rattle.runs.proofs.big4.Goals as goal
 pub returns : goal.returns
 returns c =
     let l = c.little4.ensures in
-    c.swapped4.ensures ∙ rw (l.result_value, l.result_value_2.0, l.result_value_2.1.0, l.result_value_2.1.1) (sym (written_four _ _))
+    c.swapped4.ensures ∙ rw (l.result_value, l.result_value_2, l.result_value_3, l.result_value_4) (sym (written_four _ _))

@@ -37,4 +37,6 @@ pub overflow_add-result-6 : goal.overflow_add-result-6
 overflow_add-result-6 c = omega (arith, c.type_inv.bytes c.args.i, c.type_inv.bytes (c.args.i + 1), c.type_inv.bytes (c.args.i + 2), c.type_inv.bytes (c.args.i + 3))
 
 pub returns : goal.returns
-returns c = little_four (c.type_inv.bytes c.args.i).fits (c.type_inv.bytes (c.args.i + 1)).fits (c.type_inv.bytes (c.args.i + 2)).fits (c.type_inv.bytes (c.args.i + 3)).fits
+returns c =
+    let all = little_four (c.type_inv.bytes c.args.i).fits (c.type_inv.bytes (c.args.i + 1)).fits (c.type_inv.bytes (c.args.i + 2)).fits (c.type_inv.bytes (c.args.i + 3)).fits in
+    record { result_value = all.0; result_value_2 = all.1.0; result_value_3 = all.1.1.0; result_value_4 = all.1.1.1 }

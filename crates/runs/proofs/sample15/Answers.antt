@@ -9,6 +9,6 @@ use Rattle.runs.proofs.sample15.Goals as goal
 pub returns : goal.returns
 returns c =
     let z = c in
-    let v = rw (c.big2.ensures, z.requires.g_in_bounds.1.1) at c.value15-w.ensures in
+    let v = rw (c.big2.ensures, z.requires.exponents_value) at c.value15-w.ensures in
     let w = v ∙ group_value z.args.bytes.now z.args.g z.args.j z.requires.j_bound in
-    (rw (← w) (c.count.ensures ∙ zero-add _), rw (← w) c.put.ensures)
+    record { value = rw (← w) (c.count.ensures ∙ zero-add _); out_after = rw (← w) c.put.ensures }

@@ -28,19 +28,19 @@ overflow_cast-exponents c = omega arith
 
 pub sample15-a-requires : goal.sample15-a-requires
 unfolding grouped_in
-sample15-a-requires c = (omega arith, (omega arith, (omega arith, c.big2-exponents.ensures)))
+sample15-a-requires c = record { j_bound = omega arith; g_in_bounds = omega arith; j_in_bounds = omega arith; exponents_value = c.big2-exponents.ensures }
 
 pub sample15-b-requires : goal.sample15-b-requires
 unfolding grouped_in
-sample15-b-requires c = (omega arith, (omega arith, (omega arith, c.big2-exponents.ensures)))
+sample15-b-requires c = record { j_bound = omega arith; g_in_bounds = omega arith; j_in_bounds = omega arith; exponents_value = c.big2-exponents.ensures }
 
 pub sample15-c-requires : goal.sample15-c-requires
 unfolding grouped_in
-sample15-c-requires c = (omega arith, (omega arith, (omega arith, c.big2-exponents.ensures)))
+sample15-c-requires c = record { j_bound = omega arith; g_in_bounds = omega arith; j_in_bounds = omega arith; exponents_value = c.big2-exponents.ensures }
 
 pub sample15-d-requires : goal.sample15-d-requires
 unfolding grouped_in
-sample15-d-requires c = (omega arith, (omega arith, (omega arith, c.big2-exponents.ensures)))
+sample15-d-requires c = record { j_bound = omega arith; g_in_bounds = omega arith; j_in_bounds = omega arith; exponents_value = c.big2-exponents.ensures }
 
 pub overflow_add-off : goal.overflow_add-off
 overflow_add-off c = omega (arith, counted_low _ c.sample15-a.ensures.value)
@@ -52,7 +52,7 @@ pub overflow_add-off-in-loop-g-2 : goal.overflow_add-off-in-loop-g-2
 overflow_add-off-in-loop-g-2 c = omega (arith, counted_low _ c.sample15-a.ensures.value, counted_low _ c.sample15-b.ensures.value, counted_low _ c.sample15-c.ensures.value)
 
 pub overflow_add-off-in-loop-g-3 : goal.overflow_add-off-in-loop-g-3
-overflow_add-off-in-loop-g-3 c = omega (arith, counted_low _ c.sample15-a.ensures.value, counted_low _ c.sample15-b.ensures.value, counted_low _ c.sample15-c.ensures.value, counted_low _ c.sample15-d.ensures.0)
+overflow_add-off-in-loop-g-3 c = omega (arith, counted_low _ c.sample15-a.ensures.value, counted_low _ c.sample15-b.ensures.value, counted_low _ c.sample15-c.ensures.value, counted_low _ c.sample15-d.ensures.value)
 
 pub overflow_add-g : goal.overflow_add-g
 overflow_add-g c = omega arith
@@ -61,7 +61,8 @@ pub loop-g-smaller : goal.loop-g-smaller
 loop-g-smaller c = omega arith
 
 pub loop-g-preserved : goal.loop-g-preserved
-loop-g-preserved c = done_four c.loop-g.invariant c.loop-g-test.true c.sample15-a.ensures c.sample15-b.ensures c.sample15-c.ensures c.sample15-d.ensures
+loop-g-preserved c = done_four c.loop-g.invariant c.loop-g-test.true 
+    (c.sample15-a.ensures.value, c.sample15-a.ensures.out_after) (c.sample15-b.ensures.value, c.sample15-b.ensures.out_after) (c.sample15-c.ensures.value, c.sample15-c.ensures.out_after) (c.sample15-d.ensures.value, c.sample15-d.ensures.out_after)
 
 pub shape_of-out : goal.shape_of-out
 shape_of-out c = c.loop-g.invariant.same
