@@ -12,7 +12,7 @@ unfolding channel_set_in
 returns c = λ k. record {
   start = c.word_at.ensures k;
   end = c.word_at-2.ensures k;
-  descale = (to_z-of_z {w = w32} (record { sfits = c.quarters_of.type-inv }) ∙ c.quarters_of.ensures ∙ ap quarters c.byte_at.ensures) k;
+  descale = (to_z-of_z {w = w32} (record { sfits = c.quarters_of.type_inv }) ∙ c.quarters_of.ensures ∙ ap quarters c.byte_at.ensures) k;
   channels = c.two_pairs.ensures k;
   channel_type = c.upper_at.ensures.0 k;
   subscan_exponent = c.upper_at-2.ensures.0 k;

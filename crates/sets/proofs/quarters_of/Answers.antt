@@ -8,7 +8,7 @@ use Rattle.sets.proofs.Signs.{positive, negative}
 use Rattle.sets.proofs.quarters_of.Goals as goal
 
 pub returns-then-x-eq0 : goal.returns-then-x-eq0
-returns-then-x-eq0 c = to_z-of_z {w = w32} (record { sfits = c.difference.type-inv }) ∙ c.difference.ensures ∙ positive _ c.if-x-eq0.true
+returns-then-x-eq0 c = to_z-of_z {w = w32} (record { sfits = c.difference.type_inv }) ∙ c.difference.ensures ∙ positive _ c.if-x-eq0.true
 
 pub returns : goal.returns
-returns c = to_z-of_z {w = w32} (record { sfits = c.difference-2.type-inv }) ∙ c.difference-2.ensures ∙ negative _ c.if-x-eq0.false
+returns c = to_z-of_z {w = w32} (record { sfits = c.difference-2.type_inv }) ∙ c.difference-2.ensures ∙ negative _ c.if-x-eq0.false

@@ -10,7 +10,7 @@ use Rattle.sets.specs.Samples.{samples_before}
 use Rattle.sets.proofs.samples_before.Given as goal
 
 abbrev pub invariant-loop-s : goal.invariant-loop-s
-invariant-loop-s l = (l.initial.s ≡ samples_before l.b l.t l.s) × (l.initial.s ≤ 4294967295 * l.s) × (l.s ≤ l.n)
+invariant-loop-s l = (l.sum ≡ samples_before l.b l.t l.s) × (l.sum ≤ 4294967295 * l.s) × (l.s ≤ l.n)
 
 abbrev pub decreases-loop-s : goal.decreases-loop-s
 decreases-loop-s l = l.n - l.s
