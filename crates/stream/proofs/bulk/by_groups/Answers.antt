@@ -1,0 +1,21 @@
+-- `stream::bulk::by_groups` meets its contract.
+-- Assumes nothing.
+use Rattle.std.proofs.Common.{rules, ne_eqb}
+use Rattle.basis.specs.Choice.{pick}
+use Rattle.stream.specs.Bulk.{value_in, words_of}
+use Rattle.stream.proofs.bulk.by_groups.Goals as goal
+
+pub returns-then-g-eq0 : goal.returns-then-g-eq0
+unfolding value_in words_of pick
+returns-then-g-eq0 c =
+    let e = c.if-g-eq0.true in
+    (rw e c.groups15.ensures.0, rw e c.groups15.ensures.1)
+
+pub overflow_sub-g : goal.overflow_sub-g
+overflow_sub-g c = c.requires c.if-g-eq0.false
+
+pub returns : goal.returns
+unfolding value_in words_of pick
+returns c =
+    let e = ne_eqb c.args.g 0 c.if-g-eq0.false in
+    (rw e c.rest15.ensures.0, rw e c.rest15.ensures.1)

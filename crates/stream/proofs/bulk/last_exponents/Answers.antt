@@ -1,0 +1,37 @@
+-- `stream::bulk::last_exponents` meets its contract.
+-- Assumes nothing.
+use Rattle.std.proofs.Common.{◌-◌, ◌*◌, ◌/◌, length, arith, rules, eq-eqb, ne_eqb}
+use Rattle.basis.specs.Choice.{pick}
+use Rattle.stream.specs.Bulk.{last_exponents}
+use Rattle.stream.proofs.Held.{two_shifts}
+use Rattle.stream.proofs.bulk.last_exponents.Goals as goal
+
+pub returns-then-w-ne10 : goal.returns-then-w-ne10
+unfolding last_exponents pick
+returns-then-w-ne10 c = rw (ne_eqb c.args.w 10 c.if-w-ne10.true)
+
+pub returns-then-g-ne0 : goal.returns-then-g-ne0
+unfolding last_exponents pick
+returns-then-g-ne0 c = rw (eq-eqb c.args.w 10 c.if-w-ne10.false, ne_eqb c.args.g 0 c.if-g-ne0.true)
+
+pub overflow_sub-k : goal.overflow_sub-k
+overflow_sub-k c = omega (arith, c.requires c.if-w-ne10.false c.if-g-ne0.false)
+
+pub overflow_mul-k : goal.overflow_mul-k
+overflow_mul-k c = omega (arith, c.requires c.if-w-ne10.false c.if-g-ne0.false, c.well-formed)
+
+pub bounds-bytes-k : goal.bounds-bytes-k
+bounds-bytes-k c = omega (arith, c.requires c.if-w-ne10.false c.if-g-ne0.false)
+
+pub overflow_add-k : goal.overflow_add-k
+overflow_add-k c = omega (arith, c.requires c.if-w-ne10.false c.if-g-ne0.false, c.well-formed)
+
+pub bounds-bytes-k-2 : goal.bounds-bytes-k-2
+bounds-bytes-k-2 c = omega (arith, c.requires c.if-w-ne10.false c.if-g-ne0.false)
+
+pub returns : goal.returns
+unfolding last_exponents pick
+returns c =
+    let z = c in
+    rw (eq-eqb z.args.w 10 c.if-w-ne10.false, eq-eqb z.args.g 0 c.if-g-ne0.false, c.shift.ensures, c.shift-a.ensures)
+    (two_shifts z.args.bytes.now (λ i. omega (arith, c.type_inv.bytes i)) ((length z.args.bytes.now - 1) / 10 * 10))

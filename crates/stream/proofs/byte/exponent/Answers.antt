@@ -1,0 +1,14 @@
+-- `stream::byte::exponent` meets its contract.
+-- Assumes nothing.
+use Rattle.std.proofs.Common.{rules, eq-eqb, ne_eqb}
+use Rattle.basis.specs.Choice.{pick}
+use Rattle.stream.specs.Spots.{exponent}
+use Rattle.stream.proofs.byte.exponent.Goals as goal
+
+pub returns-then-w-ne10 : goal.returns-then-w-ne10
+unfolding exponent pick
+returns-then-w-ne10 c = rw (ne_eqb c.args.w 10 c.if-w-ne10.true)
+
+pub returns : goal.returns
+unfolding exponent pick
+returns c = rw (eq-eqb c.args.w 10 c.if-w-ne10.false, c.nibble.ensures)

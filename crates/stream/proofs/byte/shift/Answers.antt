@@ -1,0 +1,10 @@
+-- `stream::byte::shift` meets its contract.
+-- Assumes nothing.
+use Rattle.scan.specs.Step.{shift}
+use Rattle.basis.proofs.Rules.{tests}
+use Rattle.std.proofs.Common.{rules}
+use Rattle.stream.proofs.byte.shift.Goals as goal
+
+pub returns : goal.returns
+unfolding shift
+returns c = search tests
