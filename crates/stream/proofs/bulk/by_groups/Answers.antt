@@ -9,7 +9,7 @@ pub returns-then-g-eq0 : goal.returns-then-g-eq0
 unfolding value_in words_of pick
 returns-then-g-eq0 c =
     let e = c.if-g-eq0.true in
-    (rw e c.groups15.ensures.0, rw e c.groups15.ensures.1)
+    (record { value = rw e c.groups15.ensures.value; out_after = rw e c.groups15.ensures.out_after })
 
 pub overflow_sub-g : goal.overflow_sub-g
 overflow_sub-g c = c.requires c.if-g-eq0.false
@@ -18,4 +18,4 @@ pub returns : goal.returns
 unfolding value_in words_of pick
 returns c =
     let e = ne_eqb c.args.g 0 c.if-g-eq0.false in
-    (rw e c.rest15.ensures.0, rw e c.rest15.ensures.1)
+    (record { value = rw e c.rest15.ensures.value; out_after = rw e c.rest15.ensures.out_after })

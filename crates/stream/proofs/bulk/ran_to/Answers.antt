@@ -7,7 +7,7 @@ use Rattle.std.proofs.Common.{rules}
 use Rattle.stream.proofs.bulk.ran_to.Goals as goal
 
 pub last_exponents-requires : goal.last_exponents-requires
-last_exponents-requires c = λ e f. let p = c.requires.0 in (p.0.some, spread_even p.0.words e)
+last_exponents-requires c = λ e f. let p = c.requires.able in (p.0.some, spread_even p.0.words e)
 
 pub returns : goal.returns
 unfolding ran_to moved_by

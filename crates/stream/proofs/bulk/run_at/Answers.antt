@@ -8,13 +8,13 @@ use Rattle.stream.proofs.bulk.run_at.Goals as goal
 pub run-requires : goal.run-requires
 run-requires c =
     let z = c in
-    let l = part_len z.args.bytes.now z.args.i z.args.k z.requires.1.0 in
-    ((rw l z.requires.0.0, z.requires.0.1), rw (l, rest_all z.args.out.now z.args.n) (simp length-drop (omega (arith, z.requires.1))))
+    let l = part_len z.args.bytes.now z.args.i z.args.k z.requires.k_in_bounds.0 in
+    (record { able = (rw l z.requires.able.0, z.requires.able.1); bytes_in_bounds = rw (l, rest_all z.args.out.now z.args.n) (simp length-drop (omega (arith, z.requires.k_in_bounds))) })
 
 pub returns : goal.returns
 unfolding chunk_out
 returns c =
     let z = c in
     let e : z.args.i + z.args.k - z.args.i ≡ z.args.k = omega arith in
-    let p = put_part z.args.out.now c.run.new.1.1.1.1.0 _ z.args.n c.run.ensures.1 in
+    let p = put_part z.args.out.now c.run.new.out.1.1.1.0 _ z.args.n c.run.ensures.1 in
     (rw e at c.run.ensures.0, rw e at p)

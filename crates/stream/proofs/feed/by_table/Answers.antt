@@ -13,7 +13,7 @@ bound p e = ap (λ (x : List ℕ). x ∷ []) (p ∙ ap table_of (sym e))
 pub feed-requires : goal.feed-requires
 feed-requires c =
     let z = c in
-    ((z.requires.0.0, z.requires.0.1, λ _. bound c.of_22.ensures c.if-code-eq34.true), z.requires.1)
+    (record { fit = (z.requires.fit.0, z.requires.fit.1, λ _. bound c.of_22.ensures c.if-code-eq34.true); bytes_in_bounds = z.requires.bytes_in_bounds })
 
 pub returns-then-code-eq34 : goal.returns-then-code-eq34
 returns-then-code-eq34 c = c.feed.ensures
@@ -21,7 +21,7 @@ returns-then-code-eq34 c = c.feed.ensures
 pub feed-requires-then-code-eq66 : goal.feed-requires-then-code-eq66
 feed-requires-then-code-eq66 c =
     let z = c in
-    ((z.requires.0.0, z.requires.0.1, λ _. bound c.of_42.ensures c.if-code-eq66.true), z.requires.1)
+    (record { fit = (z.requires.fit.0, z.requires.fit.1, λ _. bound c.of_42.ensures c.if-code-eq66.true); bytes_in_bounds = z.requires.bytes_in_bounds })
 
 pub returns-then-code-eq66 : goal.returns-then-code-eq66
 returns-then-code-eq66 c = c.feed-then-code-eq66.ensures
@@ -30,7 +30,7 @@ pub feed-requires-2 : goal.feed-requires-2
 feed-requires-2 c =
     let z = c in
     let s = z.args.s in
-    ((z.requires.0.0, z.requires.0.1, λ e. absurd (wide s.shape.code z.args.w z.requires.0.1 (shape_parts s.shape z.requires.0.0.shape).code c.if-code-eq34.false c.if-code-eq66.false e)), z.requires.1)
+    (record { fit = (z.requires.fit.0, z.requires.fit.1, λ e. absurd (wide s.shape.code z.args.w z.requires.fit.1 (shape_parts s.shape z.requires.fit.0.shape).code c.if-code-eq34.false c.if-code-eq66.false e)); bytes_in_bounds = z.requires.bytes_in_bounds })
 
 pub returns : goal.returns
 returns c = c.feed-2.ensures

@@ -13,12 +13,12 @@ use Rattle.stream.proofs.feed.feed.Goals as goal
 pub loop-i-init : goal.loop-i-init
 loop-i-init c =
     let z = c in
-    going_start z.args.bytes.now z.args.out.now z.args.s z.requires.0.0
+    going_start z.args.bytes.now z.args.out.now z.args.s z.requires.fit.0
 
 pub ahead_at-k-requires : goal.ahead_at-k-requires
 ahead_at-k-requires c =
     let a = c in
-    (a.loop-i.invariant.fit, rw a.loop-i.invariant.shape a.requires.0.1, a.loop-i.invariant.in_bytes)
+    (a.loop-i.invariant.fit, rw a.loop-i.invariant.shape a.requires.fit.1, a.loop-i.invariant.in_bytes)
 
 pub bounds-bytes-i : goal.bounds-bytes-i
 bounds-bytes-i c =
@@ -27,25 +27,25 @@ bounds-bytes-i c =
 pub step-r-requires : goal.step-r-requires
 step-r-requires c =
     let a = c in
-    (a.loop-i.invariant.fit, rw a.loop-i.invariant.shape a.requires.0.1)
+    (a.loop-i.invariant.fit, rw a.loop-i.invariant.shape a.requires.fit.1)
 
 pub overflow_add-i : goal.overflow_add-i
 overflow_add-i c =
-    omega (arith, c.loop-i-test.true, c.well-formed)
+    omega (arith, c.loop-i-test.true, c.good)
 
 pub put-requires : goal.put-requires
 put-requires c =
     let a = c in
     let b = a.loop-i in
     let z = a in
-    omega (arith, b.invariant, z.requires.1, c.loop-i-test.true)
+    omega (arith, b.invariant, z.requires.bytes_in_bounds, c.loop-i-test.true)
 
 pub overflow_add-n : goal.overflow_add-n
 overflow_add-n c =
     let a = c in
     let b = a.loop-i in
     let z = a in
-    omega (arith, b.invariant, z.requires.1, z.well-formed, c.loop-i-test.true)
+    omega (arith, b.invariant, z.requires.bytes_in_bounds, z.well-formed, c.loop-i-test.true)
 
 pub loop-i-smaller-then-r : goal.loop-i-smaller-then-r
 loop-i-smaller-then-r c =
@@ -74,7 +74,7 @@ overflow_add-i-else-k-eq0 c =
     let a = c in
     let b = a.loop-i in
     let z = a in
-    omega (arith, c.ahead_at-k.ensures.within, b.invariant.in_bytes, z.well-formed)
+    omega (arith, c.ahead_at-k.ensures.within, b.invariant.in_bytes, z.good)
 
 pub overflow_add-n-else-k-eq0 : goal.overflow_add-n-else-k-eq0
 overflow_add-n-else-k-eq0 c =
@@ -82,7 +82,7 @@ overflow_add-n-else-k-eq0 c =
     let b = a.loop-i in
     let z = a in
     let h = c.ahead_at-k.ensures in
-    let r = c.chunk_at-r.ensures.0 in
+    let r = c.chunk_at-r.ensures.value in
     let l = chunk_length b.t-1 z.args.bytes.now b.i c.ahead_at-k.result c.chunk_at-r.result r in
     omega (arith, l, h.within, b.invariant, z.requires.1, z.well-formed, c.loop-i-test.true)
 

@@ -17,7 +17,7 @@ unfolding fit_portion fit_wrote unchanged over pick
 returns-then-out-bytes c = search (tests, room_short _ _ c.if-out-bytes.true, c.if-s-ne0.false)
 
 pub by_table-requires : goal.by_table-requires
-by_table-requires c = let z = c in (z.requires, omega (arith, c.if-out-bytes.false))
+by_table-requires c = let z = c in (record { fit = z.requires; bytes_in_bounds = omega (arith, c.if-out-bytes.false) })
 
 pub returns : goal.returns
 unfolding fit_portion fit_wrote unchanged over pick
