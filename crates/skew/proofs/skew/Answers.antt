@@ -1,0 +1,27 @@
+-- `skew::skew` meets its contract.
+-- Assumes nothing.
+use mathlib.Core.Path.{sym, ◌∙◌}
+use native.Mathlib.Nat.{zero-add}
+use native.Mathlib.Omega.{arith}
+use borrow.Author.Rules.{rules}
+use Rattle.parts.specs.Slices.{part}
+use Rattle.skew.specs.Skews.{skew_part}
+use Rattle.skew.proofs.Fits.{Asked, skew_asked, asked_fits}
+use Rattle.skew.proofs.skew.Goals as goal
+
+pub overflow_sub-scan_type : goal.overflow_sub-scan_type
+overflow_sub-scan_type c = omega (arith, (skew_asked _ _ _ (sym c.in-Clear.ensures)).least)
+
+pub overflow_cast-scan_type : goal.overflow_cast-scan_type
+overflow_cast-scan_type c = omega (arith, (skew_asked _ _ _ (sym c.in-Clear.ensures)).small)
+
+pub skew_bytes-requires : goal.skew_bytes-requires
+skew_bytes-requires c = asked_fits _ _ _ (skew_asked _ _ _ (sym c.in-Clear.ensures))
+
+pub returns-in-At : goal.returns-in-At
+unfolding skew_part part
+returns-in-At c = rw (← c.skew_fault-f.ensures, c.in-At.is, zero-add)
+
+pub returns-in-Clear : goal.returns-in-Clear
+unfolding skew_part
+returns-in-Clear c = rw (← c.skew_fault-f.ensures, c.in-Clear.is) c.skew_bytes.ensures

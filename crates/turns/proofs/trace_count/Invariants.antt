@@ -1,0 +1,16 @@
+-- `turns::trace_count` meets its contract.
+-- Assumes nothing.
+use Prim.Native.Nat.{◌≤◌, ◌*◌, ◌-◌}
+use mathlib.Core.Path.{◌≡◌, refl}
+use Rattle.basis.specs.Upto.{upto, sum_upto}
+use Rattle.basis.proofs.Uptos.{upto_more}
+use Rattle.turns.specs.Turns.{traces_of, trace_count}
+use borrow.Author.Rules.{rules}
+use native.Mathlib.Omega.{arith}
+use Rattle.turns.proofs.trace_count.Given as goal
+
+abbrev pub invariant-loop-t : goal.invariant-loop-t
+invariant-loop-t l = (l.sum ≡ sum_upto (traces_of l.b) l.t) × (l.sum ≤ 16777216 * l.t) × (l.t ≤ l.types)
+
+abbrev pub decreases-loop-t : goal.decreases-loop-t
+decreases-loop-t l = l.types - l.t
