@@ -18,13 +18,13 @@ pub overflow_sub-k : goal.overflow_sub-k
 overflow_sub-k c = omega (arith, c.requires c.if-w-ne10.false c.if-g-ne0.false)
 
 pub overflow_mul-k : goal.overflow_mul-k
-overflow_mul-k c = omega (arith, c.requires c.if-w-ne10.false c.if-g-ne0.false, c.good)
+overflow_mul-k c = omega (arith, c.requires c.if-w-ne10.false c.if-g-ne0.false, c.well_formed)
 
 pub bounds-bytes-k : goal.bounds-bytes-k
 bounds-bytes-k c = omega (arith, c.requires c.if-w-ne10.false c.if-g-ne0.false)
 
 pub overflow_add-k : goal.overflow_add-k
-overflow_add-k c = omega (arith, c.requires c.if-w-ne10.false c.if-g-ne0.false, c.good)
+overflow_add-k c = omega (arith, c.requires c.if-w-ne10.false c.if-g-ne0.false, c.well_formed)
 
 pub bounds-bytes-k-2 : goal.bounds-bytes-k-2
 bounds-bytes-k-2 c = omega (arith, c.requires c.if-w-ne10.false c.if-g-ne0.false)

@@ -26,7 +26,7 @@ ran_to-t-requires c =
 pub overflow_mul-result : goal.overflow_mul-result
 overflow_mul-result c =
     let z = c in
-    omega (arith, ran_samples z.args.s z.args.w _ z.args.bytes.now z.args.out.now _ c.by_code-r.ensures.value, z.requires.bytes_in_bounds, z.good)
+    omega (arith, ran_samples z.args.s z.args.w _ z.args.bytes.now z.args.out.now _ c.by_code-r.ensures.value, z.requires.bytes_in_bounds, z.well_formed)
 
 pub returns : goal.returns
 returns c =

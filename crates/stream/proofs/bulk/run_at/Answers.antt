@@ -16,5 +16,5 @@ unfolding chunk_out
 returns c =
     let z = c in
     let e : z.args.i + z.args.k - z.args.i ≡ z.args.k = omega arith in
-    let p = put_part z.args.out.now c.run.new.out.1.1.1.0 _ z.args.n c.run.ensures.1 in
-    (rw e at c.run.ensures.0, rw e at p)
+    let p = put_part z.args.out.now _ _ z.args.n c.run.ensures.out_after in
+    record { value = rw e at c.run.ensures.value; out_after = rw e at p }

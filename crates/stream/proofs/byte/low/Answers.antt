@@ -17,4 +17,4 @@ unfolding low
 returns c =
     let z = c in
     let e : z.args.w ≡ 4 = omega (arith, z.requires, c.if-w-eq2.false, c.if-w-eq1.false) in
-    rw e (omega (arith, z.good))
+    rw e (omega (arith, z.well_formed))

@@ -12,7 +12,7 @@ returns-then-b-ne1 c = search (tests, c.halt.ensures)
 
 pub returns-then-phased : goal.returns-then-phased
 unfolding phase pick
-returns-then-phased c = search (tests, sym c.phased.ensures ∙ c.if-phased.true, c.still.ensures, c.moved.ensures, c.type_inv.ensures)
+returns-then-phased c = search (tests, sym c.phased.ensures ∙ c.if-phased.true, c.still.ensures, c.moved.ensures, c.typed.ensures)
 
 pub returns-else-phased : goal.returns-else-phased
 unfolding phase pick

@@ -13,4 +13,4 @@ returns-then-k-eq0 c = search tests
 
 pub returns : goal.returns
 unfolding phased pick field
-returns c = search (tests, c.type_inv.ensures)
+returns c = search (tests, c.typed-t.ensures)
