@@ -25,7 +25,7 @@ pub returns-then-fit_by : goal.returns-then-fit_by
 unfolding portion portion_wrote unchanged over pick
 returns-then-fit_by c =
     let f = c in
-    search (tests, tested f.args.s f.fit_by.ensures f.group-w.ensures ∙ c.if-fit_by.true, c.fit_portion_lem.ensures)
+    search (tests, tested f.args.s f.fit_by.ensures f.group-w.ensures ∙ c.if-fit_by.true, c.fit_portion.ensures)
 
 pub returns-else-fit_by : goal.returns-else-fit_by
 unfolding portion portion_wrote unchanged over pick

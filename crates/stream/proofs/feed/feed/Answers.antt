@@ -13,12 +13,12 @@ use Rattle.stream.proofs.feed.feed.Goals as goal
 pub loop-i-init : goal.loop-i-init
 loop-i-init c =
     let z = c in
-    going_start z.args.bytes.now z.args.out.now z.args.s z.requires.0.0
+    going_start z.args.bytes.now z.args.out.now z.args.s z.requires.fit.0
 
 pub ahead_at-k-requires : goal.ahead_at-k-requires
 ahead_at-k-requires c =
     let a = c in
-    (a.loop-i.invariant.fit, rw a.loop-i.invariant.shape a.requires.0.1, a.loop-i.invariant.in_bytes)
+    (a.loop-i.invariant.fit, rw a.loop-i.invariant.shape a.requires.fit.1, a.loop-i.invariant.in_bytes)
 
 pub bounds-bytes-i : goal.bounds-bytes-i
 bounds-bytes-i c =
@@ -27,7 +27,7 @@ bounds-bytes-i c =
 pub step-r-requires : goal.step-r-requires
 step-r-requires c =
     let a = c in
-    (a.loop-i.invariant.fit, rw a.loop-i.invariant.shape a.requires.0.1)
+    (a.loop-i.invariant.fit, rw a.loop-i.invariant.shape a.requires.fit.1)
 
 pub overflow_add-i : goal.overflow_add-i
 overflow_add-i c =
@@ -38,14 +38,14 @@ put-requires c =
     let a = c in
     let b = a.loop-i in
     let z = a in
-    omega (arith, b.invariant, z.requires.1, c.loop-i-test.true)
+    omega (arith, b.invariant, z.requires.bytes_in_bounds, c.loop-i-test.true)
 
 pub overflow_add-n : goal.overflow_add-n
 overflow_add-n c =
     let a = c in
     let b = a.loop-i in
     let z = a in
-    omega (arith, b.invariant, z.requires.1, z.well_formed, c.loop-i-test.true)
+    omega (arith, b.invariant, z.requires.bytes_in_bounds, z.well_formed, c.loop-i-test.true)
 
 pub loop-i-smaller-then-r : goal.loop-i-smaller-then-r
 loop-i-smaller-then-r c =
@@ -56,7 +56,7 @@ loop-i-preserved-then-r c =
     let a = c in
     let b = a.loop-i in
     let z = a in
-    rw c.put.ensures (going_wrote z.args.bytes.now z.args.out.now z.args.s b.out b.t b.n b.i c.step-r.result b.invariant z.requires.1 c.loop-i-test.true c.step-r.ensures c.if-r.true)
+    rw c.put.ensures (going_wrote z.args.bytes.now z.args.out.now z.args.s b.out b.t b.n b.i c.step-r.result b.invariant z.requires.bytes_in_bounds c.loop-i-test.true c.step-r.ensures c.if-r.true)
 
 pub loop-i-smaller-else-r : goal.loop-i-smaller-else-r
 loop-i-smaller-else-r c =
@@ -76,8 +76,8 @@ chunk_at-r-requires c =
     let z = a in
     let h = c.ahead_at-k.ensures in
     let e = c.if-k-eq0.false in
-    let w : group_of b.t.shape.code ≡ z.args.w = rw b.invariant.shape z.requires.0.1 in
-    ((b.invariant.fit, subst (λ (x : ℕ). Takes b.t x z.args.bytes.now b.i c.ahead_at-k.result) w (h.takes (omega arith)), rw b.invariant.shape z.requires.0.2), omega (arith, h.within, b.invariant, z.requires.1, c.loop-i-test.true))
+    let w : group_of b.t.shape.code ≡ z.args.w = rw b.invariant.shape z.requires.fit.1 in
+    (record { fit = (b.invariant.fit, subst (λ (x : ℕ). Takes b.t x z.args.bytes.now b.i c.ahead_at-k.result) w (h.takes (omega arith)), rw b.invariant.shape z.requires.fit.2); k_in_bounds = omega (arith, h.within, b.invariant, z.requires.bytes_in_bounds, c.loop-i-test.true) })
 
 pub overflow_add-i-else-k-eq0 : goal.overflow_add-i-else-k-eq0
 overflow_add-i-else-k-eq0 c =
@@ -92,9 +92,9 @@ overflow_add-n-else-k-eq0 c =
     let b = a.loop-i in
     let z = a in
     let h = c.ahead_at-k.ensures in
-    let r = c.chunk_at-r.ensures.0 in
+    let r = c.chunk_at-r.ensures.value in
     let l = chunk_length b.t z.args.bytes.now b.i c.ahead_at-k.result c.chunk_at-r.result r in
-    omega (arith, l, h.within, b.invariant, z.requires.1, z.well_formed, c.loop-i-test.true)
+    omega (arith, l, h.within, b.invariant, z.requires.bytes_in_bounds, z.well_formed, c.loop-i-test.true)
 
 pub loop-i-smaller : goal.loop-i-smaller
 loop-i-smaller c =
@@ -113,7 +113,7 @@ loop-i-preserved c =
     let z = a in
     let h = c.ahead_at-k.ensures in
     let r = c.chunk_at-r.ensures in
-    going_chunk z.args.bytes.now z.args.out.now z.args.s b.out b.t b.n b.i _ b.invariant z.requires.1 (omega (arith, h.within, c.loop-i-test.true)) _ _ _ (ap (λ (x : Chunk). x.state) r.0) (ap (λ (x : Chunk). x.count) r.0) r.1
+    going_chunk z.args.bytes.now z.args.out.now z.args.s b.out b.t b.n b.i _ b.invariant z.requires.bytes_in_bounds (omega (arith, h.within, c.loop-i-test.true)) _ _ _ (ap (λ (x : Chunk). x.state) r.value) (ap (λ (x : Chunk). x.count) r.value) r.out_after
 
 pub answered-a-requires : goal.answered-a-requires
 answered-a-requires c =
@@ -129,5 +129,5 @@ returns c =
     let a = c in
     let b = a.loop-i in
     let z = a in
-    let g = going_end z.args.bytes.now z.args.out.now z.args.s b.out b.t b.n b.i b.invariant z.requires.1 c.loop-i-test.false in
-    (rw (c.answered-a.ensures, g.state, g.count), g.list)
+    let g = going_end z.args.bytes.now z.args.out.now z.args.s b.out b.t b.n b.i b.invariant z.requires.bytes_in_bounds c.loop-i-test.false in
+    (record { value = rw (c.answered-a.ensures, g.state, g.count); out_after = g.list })
