@@ -1,0 +1,25 @@
+-- `body::ends::end` meets its contract.
+-- Assumes nothing.
+use native.Mathlib.Nat.{div-le_self}
+use Rattle.body.proofs.BlockEnds.{due_ends}
+use mathlib.Core.Path.{sym, ◌∙◌}
+use Rattle.body.specs.Ends.{ended, one_end}
+use Rattle.scan.specs.Step.{halted}
+use Rattle.stream.specs.Calls.{answered}
+use Rattle.basis.specs.Choice.{pick}
+use Rattle.basis.proofs.Rules.{tests}
+use native.Mathlib.Omega.{arith}
+use borrow.Author.Rules.{rules}
+use Rattle.body.proofs.ends.end.Goals as goal
+
+pub returns-then-s-ne0 : goal.returns-then-s-ne0
+unfolding ended one_end halted answered pick
+returns-then-s-ne0 c = search (tests, c.if-s-ne0.true, c.stop_refusal.ensures)
+
+pub returns-then-due : goal.returns-then-due
+unfolding ended one_end halted pick
+returns-then-due c = search (tests, sym c.due.ensures ∙ c.if-due.true, c.if-s-ne0.false)
+
+pub returns : goal.returns
+unfolding ended one_end halted pick
+returns c = search (tests, sym c.due.ensures ∙ c.if-due.false, c.if-s-ne0.false)

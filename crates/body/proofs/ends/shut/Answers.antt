@@ -1,0 +1,23 @@
+-- `body::ends::shut` meets its contract.
+-- Assumes nothing.
+use Rattle.body.specs.Ends.{shut}
+use Rattle.basis.specs.Choice.{pick, ◌and◌, ◌or◌}
+use Rattle.basis.proofs.Rules.{tests}
+use borrow.Author.Rules.{rules}
+use Rattle.body.proofs.ends.shut.Goals as goal
+
+pub returns-then-scans-eq0 : goal.returns-then-scans-eq0
+unfolding shut pick ◌and◌ ◌or◌
+returns-then-scans-eq0 c = search (tests, c.if-scans-eq0.true)
+
+pub returns-then-block-eq0 : goal.returns-then-block-eq0
+unfolding shut pick ◌and◌ ◌or◌
+returns-then-block-eq0 c = search (tests, c.if-block-eq0.true, c.if-scans-eq0.false)
+
+pub returns-then-scans-block-ne0 : goal.returns-then-scans-block-ne0
+unfolding shut pick ◌and◌ ◌or◌
+returns-then-scans-block-ne0 c = search (tests, c.if-scans-block-ne0.true, c.if-block-eq0.false, c.if-scans-eq0.false)
+
+pub returns : goal.returns
+unfolding shut pick ◌and◌ ◌or◌
+returns c = search (tests, c.if-scans-block-ne0.false, c.if-block-eq0.false, c.if-scans-eq0.false)

@@ -1,0 +1,9 @@
+-- `body::ends::tally` meets its contract.
+-- Assumes nothing.
+use Rattle.body.specs.Ends.{tally}
+use borrow.Author.Rules.{rules}
+use Rattle.body.proofs.ends.tally.Goals as goal
+
+pub returns : goal.returns
+unfolding tally
+returns c = rw (c.window_of.ensures, c.product-n.ensures, c.per_scan.ensures)
