@@ -1,0 +1,10 @@
+-- `trace_stream::moved` meets its contract.
+-- Assumes nothing.
+use Rattle.trace.specs.Step.{moved_by, moved}
+use Rattle.basis.proofs.Rules.{tests}
+use borrow.Author.Rules.{rules}
+use Rattle.trace_stream.proofs.byte.moved.Goals as goal
+
+pub returns : goal.returns
+unfolding moved moved_by
+returns c = search (tests, c.shift.ensures)

@@ -1,0 +1,9 @@
+-- `trace_stream::quiet` meets its contract.
+-- Assumes nothing.
+use Rattle.trace.specs.Step.{quiet}
+use borrow.Author.Rules.{rules}
+use Rattle.trace_stream.proofs.byte.quiet.Goals as goal
+
+pub returns : goal.returns
+unfolding quiet
+returns c = rw (c.still.ensures, c.moved.ensures)

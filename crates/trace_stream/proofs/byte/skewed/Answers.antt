@@ -1,0 +1,19 @@
+-- `trace_stream::skewed` meets its contract.
+-- Assumes nothing.
+use borrow.Author.Tests.{eq-eqb, ne_eqb}
+use Rattle.basis.specs.Choice.{◌or◌}
+use Rattle.trace.specs.Step.{skewb}
+use borrow.Author.Rules.{rules}
+use Rattle.trace_stream.proofs.byte.skewed.Reads as reads
+use Rattle.trace_stream.proofs.byte.skewed.Lts as lts
+use Rattle.block.proofs.pair_at.Reads as pair-at-reads
+use Rattle.turns.proofs.skew_at.Reads as skew-at-reads
+use Rattle.trace_stream.proofs.byte.skewed.Goals as goal
+
+pub returns-then-pair_at-eq0 : goal.returns-then-pair_at-eq0
+unfolding skewb ◌or◌
+returns-then-pair_at-eq0 c = rw (← c.pair_at.ensures.0, eq-eqb _ _ c.if-pair_at-eq0.true)
+
+pub returns : goal.returns
+unfolding skewb ◌or◌
+returns c = rw (← c.pair_at.ensures.0, ne_eqb _ _ c.if-pair_at-eq0.false, c.skew_at.ensures)

@@ -1,0 +1,27 @@
+-- `trace_stream::fit_portion` meets its contract.
+-- Assumes nothing.
+use Rattle.trace.proofs.Facts.{counted_look}
+use Rattle.runs.specs.Runs.{over}
+use Rattle.basis.specs.Choice.{pick}
+use borrow.Author.Tests.{eq-eqb, ne_eqb}
+use Rattle.stream.proofs.Cuts.{room_short, room_enough}
+use Rattle.trace_stream.specs.Calls.{fit_portion, fit_wrote}
+use Rattle.trace_stream.proofs.Going.{look_some}
+use native.Mathlib.Omega.{arith}
+use borrow.Author.Rules.{rules}
+use Rattle.trace_stream.proofs.feed.fit_portion.Goals as goal
+
+pub returns-then-s-ne0 : goal.returns-then-s-ne0
+unfolding fit_portion fit_wrote over pick
+returns-then-s-ne0 c = (rw (c.answered-a.ensures, ne_eqb _ _ c.if-s-ne0.true), rw (ne_eqb _ _ c.if-s-ne0.true))
+
+pub returns-then-out-bytes : goal.returns-then-out-bytes
+unfolding fit_portion fit_wrote over pick
+returns-then-out-bytes c = (rw (eq-eqb _ _ c.if-s-ne0.false, room_short _ _ c.if-out-bytes.true) c.unchanged.ensures, rw (eq-eqb _ _ c.if-s-ne0.false, room_short _ _ c.if-out-bytes.true))
+
+pub feed-requires : goal.feed-requires
+feed-requires c = let z = c in let k = counted_look z.args.b.now z.args.s.ends _ z.requires.2 c.look_at.ensures.0 in ((z.requires.0, k, look_some z.args.b.now c.look_at.result _ k z.requires.1, c.look_at.ensures.1), omega (arith, c.if-out-bytes.false))
+
+pub returns : goal.returns
+unfolding fit_portion fit_wrote pick
+returns c = (rw (eq-eqb _ _ c.if-s-ne0.false, room_enough _ _ c.if-out-bytes.false) c.feed.ensures.0, rw (eq-eqb _ _ c.if-s-ne0.false, room_enough _ _ c.if-out-bytes.false) c.feed.ensures.1)
