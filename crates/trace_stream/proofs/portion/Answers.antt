@@ -9,16 +9,16 @@ use borrow.Author.Rules.{rules}
 use Rattle.trace_stream.proofs.portion.Goals as goal
 
 pub fit_portion-requires : goal.fit_portion-requires
-fit_portion-requires c = let z = c in let q = counted_fit z.args.block.now z.args.s _ c.trace_count-traces.ensures c.fits2.ensures in (fit_of z.args.block.now z.args.s (sym q ∙ c.if-fits.true), sym c.in-Clear.ensures, c.trace_count-traces.ensures)
+fit_portion-requires c = let z = c in let q = counted_fit z.args.block.now z.args.s _ c.trace_count-traces.ensures c.fits.ensures in (fit_of z.args.block.now z.args.s (sym q ∙ c.if-fits.true), sym c.in-Clear.ensures, c.trace_count-traces.ensures)
 
 pub returns-in-At : goal.returns-in-At
 unfolding portion portion_wrote over pick
-returns-in-At c = (rw (← c.header_fault-f.ensures, c.in-At.is) c.unchanged.ensures, rw (← c.header_fault-f.ensures, c.in-At.is))
+returns-in-At c = (record { value = rw (← c.header_fault-f.ensures, c.in-At.is) c.unchanged.ensures; out_after = rw (← c.header_fault-f.ensures, c.in-At.is) })
 
 pub returns-then-fits : goal.returns-then-fits
 unfolding portion portion_wrote pick
-returns-then-fits c = let z = c in let q = counted_fit z.args.block.now z.args.s _ c.trace_count-traces.ensures c.fits2.ensures in (rw (← c.header_fault-f.ensures, c.in-Clear.is, ← q, c.if-fits.true) c.fit_portion.ensures.0, rw (← c.header_fault-f.ensures, c.in-Clear.is, ← q, c.if-fits.true) c.fit_portion.ensures.1)
+returns-then-fits c = let z = c in let q = counted_fit z.args.block.now z.args.s _ c.trace_count-traces.ensures c.fits.ensures in (rw (← c.header_fault-f.ensures, c.in-Clear.is, ← q, c.if-fits.true) c.fit_portion.ensures.0, rw (← c.header_fault-f.ensures, c.in-Clear.is, ← q, c.if-fits.true) c.fit_portion.ensures.1)
 
 pub returns-else-fits : goal.returns-else-fits
 unfolding portion portion_wrote over pick
-returns-else-fits c = let z = c in let q = counted_fit z.args.block.now z.args.s _ c.trace_count-traces.ensures c.fits2.ensures in (rw (← c.header_fault-f.ensures, c.in-Clear.is, ← q, c.if-fits.false) c.unchanged-else-fits.ensures, rw (← c.header_fault-f.ensures, c.in-Clear.is, ← q, c.if-fits.false))
+returns-else-fits c = let z = c in let q = counted_fit z.args.block.now z.args.s _ c.trace_count-traces.ensures c.fits.ensures in (rw (← c.header_fault-f.ensures, c.in-Clear.is, ← q, c.if-fits.false) c.unchanged-else-fits.ensures, rw (← c.header_fault-f.ensures, c.in-Clear.is, ← q, c.if-fits.false))

@@ -13,7 +13,7 @@ unfolding word pick
 returns-then-w-eq10 c = search (tests, c.if-w-eq10.true, c.grouped.ensures)
 
 pub plain-requires : goal.plain-requires
-plain-requires c = let a = c in let z = singles a.args.s.code a.args.w a.requires.0.0 a.requires.0.1 c.if-w-eq10.false in ((omega arith, z.0, z.1, omega arith), search rules)
+plain-requires c = let a = c in let z = singles a.args.s.code a.args.w a.requires.code_value.0 a.requires.code_value.1 c.if-w-eq10.false in (record { w_nonzero = (omega arith, z.0, z.1, omega arith); place_bound = search rules })
 
 pub returns : goal.returns
 unfolding word pick
