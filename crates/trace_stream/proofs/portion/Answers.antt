@@ -17,8 +17,8 @@ returns-in-At c = (record { value = rw (← c.header_fault-f.ensures, c.in-At.is
 
 pub returns-then-fits : goal.returns-then-fits
 unfolding portion portion_wrote pick
-returns-then-fits c = let z = c in let q = counted_fit z.args.block.now z.args.s _ c.trace_count-traces.ensures c.fits.ensures in (rw (← c.header_fault-f.ensures, c.in-Clear.is, ← q, c.if-fits.true) c.fit_portion.ensures.0, rw (← c.header_fault-f.ensures, c.in-Clear.is, ← q, c.if-fits.true) c.fit_portion.ensures.1)
+returns-then-fits c = let z = c in let q = counted_fit z.args.block.now z.args.s _ c.trace_count-traces.ensures c.fits.ensures in (record { value = rw (← c.header_fault-f.ensures, c.in-Clear.is, ← q, c.if-fits.true) c.fit_portion.ensures.value; out_after = rw (← c.header_fault-f.ensures, c.in-Clear.is, ← q, c.if-fits.true) c.fit_portion.ensures.out_after })
 
 pub returns-else-fits : goal.returns-else-fits
 unfolding portion portion_wrote over pick
-returns-else-fits c = let z = c in let q = counted_fit z.args.block.now z.args.s _ c.trace_count-traces.ensures c.fits.ensures in (rw (← c.header_fault-f.ensures, c.in-Clear.is, ← q, c.if-fits.false) c.unchanged-else-fits.ensures, rw (← c.header_fault-f.ensures, c.in-Clear.is, ← q, c.if-fits.false))
+returns-else-fits c = let z = c in let q = counted_fit z.args.block.now z.args.s _ c.trace_count-traces.ensures c.fits.ensures in (record { value = rw (← c.header_fault-f.ensures, c.in-Clear.is, ← q, c.if-fits.false) c.unchanged-else-fits.ensures; out_after = rw (← c.header_fault-f.ensures, c.in-Clear.is, ← q, c.if-fits.false) })
