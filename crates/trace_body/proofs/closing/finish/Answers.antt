@@ -1,0 +1,31 @@
+-- `trace_body::finish` meets its contract.
+-- Assumes nothing.
+use borrow.Author.Tests.{eq-eqb, ne_eqb, lt-ltb, le-ltb, le-leb, lt-leb}
+use Rattle.basis.specs.Choice.{pick}
+use Rattle.trace_body.specs.Calls.{finish}
+use Rattle.trace.proofs.Facts.{group_some}
+use borrow.Author.Rules.{rules}
+use Rattle.trace_body.proofs.closing.finish.Goals as goal
+
+pub returns-then-s-ne0 : goal.returns-then-s-ne0
+unfolding finish pick
+returns-then-s-ne0 c = rw (c.refused.ensures, c.stop_of.ensures, ne_eqb _ _ c.if-s-ne0.true)
+
+pub part-requires : goal.part-requires
+part-requires c = rw (c.group-w.ensures, c.word_at.ensures) (group_some c.args.b.now c.requires)
+
+pub returns-then-part : goal.returns-then-part
+unfolding finish pick
+returns-then-part c = rw (eq-eqb _ _ c.if-s-ne0.false, ← c.word_at.ensures, ← c.group-w.ensures, ← c.part.ensures, c.if-part.true) c.refused-then-part.ensures
+
+pub returns-then-s-ne0-2 : goal.returns-then-s-ne0-2
+unfolding finish pick
+returns-then-s-ne0-2 c = rw (eq-eqb _ _ c.if-s-ne0.false, ← c.word_at.ensures, ← c.group-w.ensures, ← c.part.ensures, c.if-part.false, ne_eqb _ _ c.if-s-ne0-2.true) c.refused-then-s-ne0-2.ensures
+
+pub returns-then-types-pair_at : goal.returns-then-types-pair_at
+unfolding finish pick
+returns-then-types-pair_at c = rw (eq-eqb _ _ c.if-s-ne0.false, ← c.word_at.ensures, ← c.group-w.ensures, ← c.part.ensures, c.if-part.false, eq-eqb _ _ c.if-s-ne0-2.false, ← c.types_seen-types.ensures, ← c.pair_at.ensures.0, lt-ltb _ _ c.if-types-pair_at.true) c.refused-then-types-pair_at.ensures
+
+pub returns : goal.returns
+unfolding finish pick
+returns c = rw (eq-eqb _ _ c.if-s-ne0.false, ← c.word_at.ensures, ← c.group-w.ensures, ← c.part.ensures, c.if-part.false, eq-eqb _ _ c.if-s-ne0-2.false, ← c.types_seen-types.ensures, ← c.pair_at.ensures.0, le-ltb _ _ c.if-types-pair_at.false, c.report.ensures)

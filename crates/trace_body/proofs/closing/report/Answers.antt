@@ -1,0 +1,10 @@
+-- `trace_body::report` meets its contract.
+-- Assumes nothing.
+use mathlib.Core.Path.{refl}
+use Rattle.trace_body.specs.Calls.{report}
+use borrow.Author.Rules.{rules}
+use Rattle.trace_body.proofs.closing.report.Goals as goal
+
+pub returns : goal.returns
+unfolding report
+returns c = refl

@@ -1,0 +1,20 @@
+-- `trace_body::tally` meets its contract.
+-- Assumes nothing.
+use mathlib.Core.Path.{sym, ◌∙◌}
+use Rattle.trace_body.specs.Ends.{tally}
+use Rattle.basis.specs.Choice.{pick}
+use Rattle.basis.proofs.Rules.{tests}
+use native.Mathlib.Omega.{arith}
+use borrow.Author.Rules.{rules}
+use Rattle.trace_body.proofs.ends.tally.Goals as goal
+
+pub one_end-requires : goal.one_end-requires
+one_end-requires c = (omega arith, λ e. omega (arith, c.scans_by-scans.ensures.1 e))
+
+pub returns-then-counted : goal.returns-then-counted
+unfolding tally pick
+returns-then-counted c = rw (← c.scans_by-scans.ensures.0, ← c.subscans_at-per.ensures.0, ← c.counted.ensures, c.if-counted.true) c.one_end.ensures
+
+pub returns-else-counted : goal.returns-else-counted
+unfolding tally pick
+returns-else-counted c = rw (← c.scans_by-scans.ensures.0, ← c.subscans_at-per.ensures.0, ← c.counted.ensures, c.if-counted.false) c.halted.ensures
