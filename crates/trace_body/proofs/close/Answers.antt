@@ -16,8 +16,8 @@ returns-in-At c = rw (← c.header_fault-f.ensures, c.in-At.is) c.refused.ensure
 
 pub returns-then-fits : goal.returns-then-fits
 unfolding close pick
-returns-then-fits c = let z = c in let q = counted_fit z.args.block.now z.args.s _ c.trace_count.ensures c.fits2.ensures in rw (← c.header_fault-f.ensures, c.in-Clear.is, ← q, c.if-fits.true) c.finish.ensures
+returns-then-fits c = let z = c in let q = counted_fit z.args.block.now z.args.s _ c.trace_count.ensures c.fits.ensures in rw (← c.header_fault-f.ensures, c.in-Clear.is, ← q, c.if-fits.true) c.finish.ensures
 
 pub returns-else-fits : goal.returns-else-fits
 unfolding close pick
-returns-else-fits c = let z = c in let q = counted_fit z.args.block.now z.args.s _ c.trace_count.ensures c.fits2.ensures in rw (← c.header_fault-f.ensures, c.in-Clear.is, ← q, c.if-fits.false) c.refused-else-fits.ensures
+returns-else-fits c = let z = c in let q = counted_fit z.args.block.now z.args.s _ c.trace_count.ensures c.fits.ensures in rw (← c.header_fault-f.ensures, c.in-Clear.is, ← q, c.if-fits.false) c.refused-else-fits.ensures
