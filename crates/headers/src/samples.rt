@@ -68,7 +68,15 @@ fn skewed(rt: &impl Print, b: &[u8], sheet: &[u8], scan_type: u32, k: u32) -> io
 }
 
 // The number of a channel's sample, and its skew.
-fn numbered(rt: &impl Print, b: &[u8], sheet: &[u8], scan_type: u32, set: u32, channel: u32, subscan: u32) -> io::Result<()> {
+fn numbered(
+    rt: &impl Print,
+    b: &[u8],
+    sheet: &[u8],
+    scan_type: u32,
+    set: u32,
+    channel: u32,
+    subscan: u32,
+) -> io::Result<()> {
     pair(rt, "channel ", scan_type, set)?;
     pair(rt, " ", channel, subscan)?;
     text(rt, ": ")?;
@@ -80,7 +88,14 @@ fn numbered(rt: &impl Print, b: &[u8], sheet: &[u8], scan_type: u32, set: u32, c
 }
 
 // The time of a sample in a scan with timing word t.
-fn timed(rt: &impl Print, b: &[u8], sheet: &[u8], scan_type: u32, k: u32, t: u32) -> io::Result<()> {
+fn timed(
+    rt: &impl Print,
+    b: &[u8],
+    sheet: &[u8],
+    scan_type: u32,
+    k: u32,
+    t: u32,
+) -> io::Result<()> {
     pair(rt, "sample ", scan_type, k)?;
     text(rt, " at ")?;
     number(rt, t)?;
