@@ -241,21 +241,20 @@ fn arrived(got: io::Result<usize>, buf: &[u8]) -> Arrival
     ensures meaning { result ≡ arrival_of got (length buf.now) }
     ensures in_bounds { IsPrefixLen result.bytes buf.now }
 {
-    let read = match got {
-        Ok(n) => n,
-        Err(e) => {
-            let error = e.kind();
-            return Arrival {
-                over: error != ErrorKind::Interrupted,
-                bytes: 0,
-            };
-        }
-    };
-    let bytes = read.min(buf.len());
-    if read > 0 {
-        return Arrival { over: false, bytes };
+    match got {
+        Ok(0) => Arrival {
+            over: true,
+            bytes: 0,
+        },
+        Ok(n) => Arrival {
+            over: false,
+            bytes: n.min(buf.len()),
+        },
+        Err(e) => Arrival {
+            over: e.kind() != ErrorKind::Interrupted,
+            bytes: 0,
+        },
     }
-    return Arrival { over: true, bytes };
 }
 
 // Lists the reel image that a reader holds: reads it and writes its lines. What a read brought is two
