@@ -39,7 +39,7 @@ use Rattle.files.proofs.Blocks.{state_after, body_fit, calls_of, calls_bytes, ca
 pub after_append : (b : List ℕ) (s : State) (xs ys : List ℕ) → after b s (xs ++ ys) ≡ after b (after b s xs) ys
 unfolding after
 after_append b s [] ys = refl
-after_append b s (x ∷ xs) ys = after_append b _ xs ys
+after_append b s (x ∷ xs) ys = after_append b (step_on b s x).state xs ys
 
 pub after_none : (b : List ℕ) (s : State) → after b s [] ≡ s
 unfolding after

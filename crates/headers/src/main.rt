@@ -7,11 +7,13 @@ mod files;
 mod print;
 mod samples;
 
-fn main() {
-    answers::of_arguments();
-    samples::of_e6();
-    samples::of_e8();
-    samples::of_dummies();
-    samples::of_none();
-    samples::of_many();
+use std::io;
+
+fn main(rt: HostRuntime) -> io::Result<()> {
+    answers::of_arguments(&rt)?;
+    samples::of_e6(&rt)?;
+    samples::of_e8(&rt)?;
+    samples::of_dummies(&rt)?;
+    samples::of_none(&rt)?;
+    samples::of_many(&rt)
 }

@@ -13,7 +13,8 @@ ghost use Rattle.lister.specs.Input.{arrival_of};
 
 use files::{AtMark, File, item_end, outcome, part};
 use framing::{Frame, Met};
-use libc::{EINTR, STDOUT_FILENO};
+use std::io;
+use std::io::{ErrorKind, Read, Write};
 
 // The file that stands after an answer of `framing::next` was heard, how many files have a line, and
 // where the lines end in their buffer.
@@ -235,36 +236,39 @@ pub fn finish(t: Progress, lines: &mut [u8]) -> usize
     listing::last_line(lines, framing::close(frame))
 }
 
-// What a read brought that answered got, with the error's number after it.
-fn arrived(got: isize, error: i32, buf: &[u8]) -> Arrival
-    ensures { (result ≡ arrival_of got error (length buf.now)) × IsPrefixLen result.bytes buf.now }
+// What a read brought that answered got.
+fn arrived(got: io::Result<usize>, buf: &[u8]) -> Arrival
+    ensures meaning { result ≡ arrival_of got (length buf.now) }
+    ensures in_bounds { IsPrefixLen result.bytes buf.now }
 {
-    let bytes = io::count(got, buf);
-    if got > 0 {
-        return Arrival { over: false, bytes };
-    }
-    if got == 0 {
-        return Arrival { over: true, bytes };
-    }
-    Arrival {
-        over: error != EINTR,
-        bytes,
+    match got {
+        Ok(0) => Arrival {
+            over: true,
+            bytes: 0,
+        },
+        Ok(n) => Arrival {
+            over: false,
+            bytes: n.min(buf.len()),
+        },
+        Err(e) => Arrival {
+            over: e.kind() != ErrorKind::Interrupted,
+            bytes: 0,
+        },
     }
 }
 
-// Lists the reel image that a descriptor holds: reads it and writes its lines. What a read brought is two
-// portions, so that the lines of each have room. A proved loop has to end, so the reads are counted down,
-// from a number that no run uses up.
-pub fn list(fd: i32) {
-    let mut image = io::large_buffer();
-    let mut header = io::large_buffer();
+// Lists the reel image that a reader holds: reads it and writes its lines. What a read brought is two
+// portions, so that the lines of each have room. A proved loop has to end, so the reads are counted, up
+// to a number that no run uses up.
+pub fn list<R: Read, W: Write>(input: &mut R, output: &mut W) -> io::Result<()> {
+    let mut image = [0u8; 65536];
+    let mut header = [0u8; 65536];
     let mut numbers = [0i32; 65536];
     let mut lines = [0u8; 466048];
     let mut progress = start();
-    let mut turns = u64::MAX;
-    while turns > 0 {
-        let got = libc::read(fd, &mut image);
-        let a = arrived(got, os::errno(), &image);
+    for _ in 0..u64::MAX {
+        let got = input.read(&mut image);
+        let a = arrived(got, &image);
         if a.over {
             break;
         }
@@ -278,7 +282,7 @@ pub fn list(fd: i32) {
             &mut lines,
         );
         let length = first.length;
-        io::write_all(STDOUT_FILENO, &lines[..length]);
+        output.write_all(&lines[..length])?;
         let middle = first.progress;
         let second = walk(
             middle,
@@ -288,10 +292,9 @@ pub fn list(fd: i32) {
             &mut lines,
         );
         let length = second.length;
-        io::write_all(STDOUT_FILENO, &lines[..length]);
+        output.write_all(&lines[..length])?;
         progress = second.progress;
-        turns -= 1;
     }
     let length = finish(progress, &mut lines);
-    io::write_all(STDOUT_FILENO, &lines[..length]);
+    output.write_all(&lines[..length])
 }

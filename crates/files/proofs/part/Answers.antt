@@ -27,10 +27,10 @@ returns-in-Refused c = rw c.in-Refused.is (refl, refl, refl)
 pub returns-in-Blocks : goal.returns-in-Blocks
 returns-in-Blocks c =
     let p = c.portion-g.ensures in
-    rw c.in-Blocks.is (rw p.0, refl, p.1)
+    rw c.in-Blocks.is (rw p.value, refl, p.out_after)
 
 pub returns-in-Traces : goal.returns-in-Traces
 returns-in-Traces c =
     let p = c.portion-g-in-Traces.ensures in
     let f = c.front-n.ensures.1 in
-    rw (c.in-Traces.is, ← f) (rw p.0, refl, p.1)
+    rw (c.in-Traces.is, ← f) (rw p.value, refl, p.out_after)
