@@ -36,34 +36,34 @@ Saying F = (κs : Lfts F.signature.lifetimes) → Args F.signature κs → Res F
 abbrev pub Ensures : (F : Ended) → Claimed F → Saying F → Type 2
 Ensures F claimed says =
     (w : World) (κs : Lfts F.signature.lifetimes) (a : Args F.signature κs) →
-    let c = claimed _ w.𝓤 w.𝓛 w.𝓜.mem w.𝓡.run κs a in
+    let c = claimed _ w.𝓤 w.𝓛 w.𝓜.mem w.𝓡.returns κs a in
     (g : c.ghost) (z : Res F.signature κs) (e : AtExit F κs) → ent w.𝓤 (c.ensures g z e) (fact w.𝓤 (says κs a z))
 
 pub record BoundHeld : Type 2 where
   -- the very slice that was lent is carried, with its header's answer
-  pub carry : Ensures view-carry.ended (λ M. view-carry.clauses {M = M})
+  pub carry : Ensures view-carry.ended (λ M 𝓤. view-carry.clauses {M = M} {𝓤 = 𝓤})
       (λ κs a z. (z.block ≡ first a) × (z.answer ≡ header_answer (first a).now))
   -- that answer as it was read
-  pub answer_of : Ensures view-answer-of.ended (λ M. view-answer-of.clauses {M = M})
+  pub answer_of : Ensures view-answer-of.ended (λ M 𝓤. view-answer-of.clauses {M = M} {𝓤 = 𝓤})
       (λ κs a z. z ≡ (first a).answer)
   -- the questions, the parts, and the opening of a body
-  pub descriptor_of : Ensures view-descriptor-of.ended (λ M. view-descriptor-of.clauses {M = M})
+  pub descriptor_of : Ensures view-descriptor-of.ended (λ M 𝓤. view-descriptor-of.clauses {M = M} {𝓤 = 𝓤})
       (λ κs a z. z ≡ descriptor_answer (first a).block.now (second a) (third a))
-  pub sample_index_of : Ensures view-sample-index-of.ended (λ M. view-sample-index-of.clauses {M = M})
+  pub sample_index_of : Ensures view-sample-index-of.ended (λ M 𝓤. view-sample-index-of.clauses {M = M} {𝓤 = 𝓤})
       (λ κs a z. z ≡ index_answer (first a).block.now (second a) (third a) (fourth a) (fifth a))
-  pub sample_place_of : Ensures view-sample-place-of.ended (λ M. view-sample-place-of.clauses {M = M})
+  pub sample_place_of : Ensures view-sample-place-of.ended (λ M 𝓤. view-sample-place-of.clauses {M = M} {𝓤 = 𝓤})
       (λ κs a z. z ≡ place_answer (first a).block.now (second a) (third a))
-  pub constants_of : Ensures view-constants-of.ended (λ M. view-constants-of.clauses {M = M})
+  pub constants_of : Ensures view-constants-of.ended (λ M 𝓤. view-constants-of.clauses {M = M} {𝓤 = 𝓤})
       (λ κs a z. lent z ≡ constants_part (lent (first a).block))
-  pub extended_of : Ensures view-extended-of.ended (λ M. view-extended-of.clauses {M = M})
+  pub extended_of : Ensures view-extended-of.ended (λ M 𝓤. view-extended-of.clauses {M = M} {𝓤 = 𝓤})
       (λ κs a z. lent z ≡ extended_part (lent (first a).block))
-  pub external_of : Ensures view-external-of.ended (λ M. view-external-of.clauses {M = M})
+  pub external_of : Ensures view-external-of.ended (λ M 𝓤. view-external-of.clauses {M = M} {𝓤 = 𝓤})
       (λ κs a z. lent z ≡ external_part (lent (first a).block))
-  pub skew_of : Ensures view-skew-of.ended (λ M. view-skew-of.clauses {M = M})
+  pub skew_of : Ensures view-skew-of.ended (λ M 𝓤. view-skew-of.clauses {M = M} {𝓤 = 𝓤})
       (λ κs a z. lent z ≡ skew_part (lent (first a).block) (lent (second a)) (third a))
-  pub skew_fault_of : Ensures view-skew-fault-of.ended (λ M. view-skew-fault-of.clauses {M = M})
+  pub skew_fault_of : Ensures view-skew-fault-of.ended (λ M 𝓤. view-skew-fault-of.clauses {M = M} {𝓤 = 𝓤})
       (λ κs a z. z ≡ skew_fault (first a).block.now (second a).now (third a))
-  pub sample_time_of : Ensures view-sample-time-of.ended (λ M. view-sample-time-of.clauses {M = M})
+  pub sample_time_of : Ensures view-sample-time-of.ended (λ M 𝓤. view-sample-time-of.clauses {M = M} {𝓤 = 𝓤})
       (λ κs a z. z ≡ time_answer (first a).block.now (second a).now (third a) (fourth a) (fifth a))
-  pub open_of : Ensures view-open-of.ended (λ M. view-open-of.clauses {M = M})
+  pub open_of : Ensures view-open-of.ended (λ M 𝓤. view-open-of.clauses {M = M} {𝓤 = 𝓤})
       (λ κs a z. z ≡ opened (first a).block.now)

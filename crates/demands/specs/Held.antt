@@ -1,5 +1,5 @@
 -- For every function over a struct that holds a reference: its contract, as the source has it, leaves one answer, and where it hands a
--- part out the very part. Such a contract has no `Post`. The checker has it as clauses, at every model of the logic.
+-- part out the very part. It is said of the contract's own clauses, at every model of the logic.
 -- Assumes nothing.
 use Rattle.std.specs.Prelude.{◌≡◌}
 use seplogic.Ra.Ura.{Ura}
@@ -39,7 +39,7 @@ Likeness F = (κs : Lfts F.signature.lifetimes) → Res F.signature κs → Res 
 abbrev pub Alike : (F : Ended) → Claimed F → Likeness F → Type 2
 Alike F claimed alike =
     (w : World) (κs : Lfts F.signature.lifetimes) (a : Args F.signature κs) →
-    let c = claimed _ w.𝓤 w.𝓛 w.𝓜.mem w.𝓡.run κs a in
+    let c = claimed _ w.𝓤 w.𝓛 w.𝓜.mem w.𝓡.returns κs a in
     (g : c.ghost) (z z' : Res F.signature κs) (e e' : AtExit F κs) →
     ent w.𝓤 (sep w.𝓤 (c.ensures g z e) (c.ensures g z' e')) (fact w.𝓤 (alike κs z z'))
 
@@ -48,15 +48,15 @@ abbrev pub OneHeld : (F : Ended) → Claimed F → Type 2
 OneHeld F claimed = Alike F claimed (λ κs z z'. z ≡ z')
 
 pub record UniqueHeld : Type 2 where
-  pub carry : OneHeld view-carry.ended (λ M. view-carry.clauses {M = M})
-  pub answer_of : OneHeld view-answer-of.ended (λ M. view-answer-of.clauses {M = M})
-  pub descriptor_of : OneHeld view-descriptor-of.ended (λ M. view-descriptor-of.clauses {M = M})
-  pub sample_index_of : OneHeld view-sample-index-of.ended (λ M. view-sample-index-of.clauses {M = M})
-  pub sample_place_of : OneHeld view-sample-place-of.ended (λ M. view-sample-place-of.clauses {M = M})
-  pub constants_of : Alike view-constants-of.ended (λ M. view-constants-of.clauses {M = M}) (λ κs. same_part)
-  pub extended_of : Alike view-extended-of.ended (λ M. view-extended-of.clauses {M = M}) (λ κs. same_part)
-  pub external_of : Alike view-external-of.ended (λ M. view-external-of.clauses {M = M}) (λ κs. same_part)
-  pub skew_of : Alike view-skew-of.ended (λ M. view-skew-of.clauses {M = M}) (λ κs. same_part)
-  pub skew_fault_of : OneHeld view-skew-fault-of.ended (λ M. view-skew-fault-of.clauses {M = M})
-  pub sample_time_of : OneHeld view-sample-time-of.ended (λ M. view-sample-time-of.clauses {M = M})
-  pub open_of : OneHeld view-open-of.ended (λ M. view-open-of.clauses {M = M})
+  pub carry : OneHeld view-carry.ended (λ M 𝓤. view-carry.clauses {M = M} {𝓤 = 𝓤})
+  pub answer_of : OneHeld view-answer-of.ended (λ M 𝓤. view-answer-of.clauses {M = M} {𝓤 = 𝓤})
+  pub descriptor_of : OneHeld view-descriptor-of.ended (λ M 𝓤. view-descriptor-of.clauses {M = M} {𝓤 = 𝓤})
+  pub sample_index_of : OneHeld view-sample-index-of.ended (λ M 𝓤. view-sample-index-of.clauses {M = M} {𝓤 = 𝓤})
+  pub sample_place_of : OneHeld view-sample-place-of.ended (λ M 𝓤. view-sample-place-of.clauses {M = M} {𝓤 = 𝓤})
+  pub constants_of : Alike view-constants-of.ended (λ M 𝓤. view-constants-of.clauses {M = M} {𝓤 = 𝓤}) (λ κs. same_part)
+  pub extended_of : Alike view-extended-of.ended (λ M 𝓤. view-extended-of.clauses {M = M} {𝓤 = 𝓤}) (λ κs. same_part)
+  pub external_of : Alike view-external-of.ended (λ M 𝓤. view-external-of.clauses {M = M} {𝓤 = 𝓤}) (λ κs. same_part)
+  pub skew_of : Alike view-skew-of.ended (λ M 𝓤. view-skew-of.clauses {M = M} {𝓤 = 𝓤}) (λ κs. same_part)
+  pub skew_fault_of : OneHeld view-skew-fault-of.ended (λ M 𝓤. view-skew-fault-of.clauses {M = M} {𝓤 = 𝓤})
+  pub sample_time_of : OneHeld view-sample-time-of.ended (λ M 𝓤. view-sample-time-of.clauses {M = M} {𝓤 = 𝓤})
+  pub open_of : OneHeld view-open-of.ended (λ M 𝓤. view-open-of.clauses {M = M} {𝓤 = 𝓤})

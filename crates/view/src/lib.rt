@@ -70,28 +70,28 @@ pub fn sample_place_of<'a>(v: Carried<'a>, scan_type: u32, k: u32) -> Place
 
 // Bytes 5 to 10 of the general header.
 pub fn constants_of<'a>(v: Carried<'a>) -> &'a [u8]
-    ensures { slice result.ref_ptr result.now ≡ constants_part (slice v.entry.block.ptr v.entry.block.now) }
+    ensures { slice result.ref_ptr result.now ≡ constants_part (slice v.entry.block.ref_ptr v.entry.block.now) }
 {
     parts::constants(v.block)
 }
 
 // The extended header.
 pub fn extended_of<'a>(v: Carried<'a>) -> &'a [u8]
-    ensures { slice result.ref_ptr result.now ≡ extended_part (slice v.entry.block.ptr v.entry.block.now) }
+    ensures { slice result.ref_ptr result.now ≡ extended_part (slice v.entry.block.ref_ptr v.entry.block.now) }
 {
     parts::extended(v.block)
 }
 
 // The external header.
 pub fn external_of<'a>(v: Carried<'a>) -> &'a [u8]
-    ensures { slice result.ref_ptr result.now ≡ external_part (slice v.entry.block.ptr v.entry.block.now) }
+    ensures { slice result.ref_ptr result.now ≡ external_part (slice v.entry.block.ref_ptr v.entry.block.now) }
 {
     parts::external(v.block)
 }
 
 // The skew bytes of a scan type, a part of the block where it has them and else of the sheet.
 pub fn skew_of<'a>(v: Carried<'a>, sheet: &'a [u8], scan_type: u32) -> &'a [u8]
-    ensures { slice result.ref_ptr result.now ≡ skew_part (slice v.entry.block.ptr v.entry.block.now) (slice sheet.entry.ref_ptr sheet.now) scan_type }
+    ensures { slice result.ref_ptr result.now ≡ skew_part (slice v.entry.block.ref_ptr v.entry.block.now) (slice sheet.entry.ref_ptr sheet.now) scan_type }
 {
     skew::skew(v.block, sheet, scan_type)
 }
@@ -123,7 +123,7 @@ pub fn open_of<'a>(v: Carried<'a>) -> Opened
     body::open(v.block)
 }
 
-// A block carried and asked, in plain parameters: a caller of this needs no proof by hand.
+// A block carried and asked, in plain parameters.
 pub fn place_in(block: &[u8], scan_type: u32, k: u32) -> Place
     ensures { result ≡ place_answer block.now scan_type k }
 {
