@@ -9,7 +9,7 @@ fn main() {
     let folder = std::env::var_os("SEGD_OWN")
         .map_or_else(|| package.join("../target/staticlib"), PathBuf::from);
     let archive = folder.join("libdeck.a");
-    assert!(archive.exists(), "{} is missing: run `rt staticlib deck`", archive.display());
+    assert!(archive.exists(), "{} is missing: run `tools/build library`", archive.display());
     println!("cargo:rerun-if-changed={}", archive.display());
     println!("cargo:rerun-if-env-changed=SEGD_OWN");
     println!("cargo:rustc-link-search=native={}", folder.display());

@@ -1,6 +1,6 @@
 //! Safe calls on the proved reader of SEG-D revision 0 records.
 //!
-//! The reader is the library that `rt staticlib deck` builds. Each call here is one of its calls;
+//! The reader is the library that `tools/build library` makes. Each call here is one of its calls;
 //! its answer comes as a `Result`, and what it turns away as a [`Refusal`].
 //!
 //! ```

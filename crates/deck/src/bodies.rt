@@ -25,8 +25,7 @@ pub struct SegdOpened {
     pub traces: trace::State,
 }
 
-#[unsafe(no_mangle)]
-pub extern "C" fn segd_open(block: &[u8]) -> SegdOpened
+pub fn segd_open(block: &[u8]) -> SegdOpened
     ensures { result ≡ flat_opened (opened block.now) (traces.opened block.now) }
 {
     let opened = body::open(block);
@@ -119,16 +118,14 @@ fn gave(g: Gave) -> SegdGave
 }
 
 // Where `out` has fewer than two numbers for each byte of the portion, it is refused (ROOM).
-#[unsafe(no_mangle)]
-pub extern "C" fn segd_portion(state: State, bytes: &[u8], out: &mut [i32]) -> SegdGave
+pub fn segd_portion(state: State, bytes: &[u8], out: &mut [i32]) -> SegdGave
     ensures value { result ≡ flat_gave (portion state bytes.now (length out.old)) }
     ensures out_after { out.new ≡ over (portion_wrote state bytes.now (length out.old)) out.old }
 {
     gave(stream::portion(state, bytes, out))
 }
 
-#[unsafe(no_mangle)]
-pub extern "C" fn segd_block_end(state: State) -> SegdGave
+pub fn segd_block_end(state: State) -> SegdGave
     ensures { result ≡ flat_gave (block_end state) }
 {
     gave(body::block_end(state))
@@ -215,8 +212,7 @@ pub(crate) fn closing(c: Closing) -> SegdClosing
     }
 }
 
-#[unsafe(no_mangle)]
-pub extern "C" fn segd_close(state: State) -> SegdClosing
+pub fn segd_close(state: State) -> SegdClosing
     ensures { result ≡ flat_closing (close state) }
 {
     closing(body::close(state))

@@ -18,8 +18,7 @@ pub struct SegdPair {
     pub value: u8,
 }
 
-#[unsafe(no_mangle)]
-pub extern "C" fn segd_packed(byte: u8) -> SegdPair
+pub fn segd_packed(byte: u8) -> SegdPair
     ensures { result ≡ flat_pair (packed_of byte) }
 {
     let pair = block::packed(byte);
@@ -66,8 +65,7 @@ fn no_header() -> Header
     }
 }
 
-#[unsafe(no_mangle)]
-pub extern "C" fn segd_read_header(block: &[u8]) -> SegdHeader
+pub fn segd_read_header(block: &[u8]) -> SegdHeader
     ensures { result ≡ flat_header (header_answer block.now) }
 {
     let answer = header::read_header(block);
@@ -112,8 +110,7 @@ fn no_set() -> ChannelSet
     }
 }
 
-#[unsafe(no_mangle)]
-pub extern "C" fn segd_descriptor(block: &[u8], scan_type: u32, set: u32) -> SegdChannelSet
+pub fn segd_descriptor(block: &[u8], scan_type: u32, set: u32) -> SegdChannelSet
     ensures { result ≡ flat_set (descriptor_answer block.now scan_type set) }
 {
     let answer = header::descriptor(block, scan_type, set);

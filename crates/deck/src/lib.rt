@@ -1,5 +1,5 @@
-// The calls that a deck's firmware links, in C's terms: numbers, slices as a pointer and a length, structs of numbers. Each is a
-// call of a library below, most by the same name, its answer laid flat.
+// The calls that a deck's firmware links, in C's terms: numbers, slices, structs of numbers. Each is a call of a library below, most by
+// the same name, its answer laid flat. The crate `deck_c` exports them to C.
 #![tactic(auto)]
 
 ghost use Rattle.std.specs.Prelude.{◌≡◌};
@@ -70,8 +70,7 @@ fn kind_number(kind: Kind) -> u8
     }
 }
 
-#[unsafe(no_mangle)]
-pub extern "C" fn segd_format(code: u16) -> SegdFormat
+pub fn segd_format(code: u16) -> SegdFormat
     ensures { result ≡ flat_format (row_of code) }
 {
     let found = codes::find(code);
@@ -112,8 +111,7 @@ pub struct SegdWord {
     pub off: u8,
 }
 
-#[unsafe(no_mangle)]
-pub extern "C" fn segd_read_word(code: u16, c: u32, word: u32) -> SegdWord
+pub fn segd_read_word(code: u16, c: u32, word: u32) -> SegdWord
     ensures { result ≡ flat_word (word_of code c word) }
 {
     let answer = words::read_word(code, c, word);

@@ -22,8 +22,7 @@ pub struct SegdIndex {
     pub k: u32,
 }
 
-#[unsafe(no_mangle)]
-pub extern "C" fn segd_sample_index(
+pub fn segd_sample_index(
     block: &[u8],
     scan_type: u32,
     set: u32,
@@ -55,8 +54,7 @@ pub struct SegdPlace {
     pub subscan: u32,
 }
 
-#[unsafe(no_mangle)]
-pub extern "C" fn segd_sample_place(block: &[u8], scan_type: u32, k: u32) -> SegdPlace
+pub fn segd_sample_place(block: &[u8], scan_type: u32, k: u32) -> SegdPlace
     ensures { result ≡ flat_place (place_answer block.now scan_type k) }
 {
     let answer = layout::sample_place(block, scan_type, k);
@@ -107,15 +105,13 @@ fn part(fault: Fault, offset: usize, length: usize) -> SegdPart
     }
 }
 
-#[unsafe(no_mangle)]
-pub extern "C" fn segd_constants(block: &[u8]) -> SegdPart
+pub fn segd_constants(block: &[u8]) -> SegdPart
     ensures { result ≡ flat_part (header_fault block.now) constants_place constants_length }
 {
     part(header::header_fault(block), 4, 6)
 }
 
-#[unsafe(no_mangle)]
-pub extern "C" fn segd_extended(block: &[u8]) -> SegdPart
+pub fn segd_extended(block: &[u8]) -> SegdPart
     ensures { result ≡ flat_part (header_fault block.now) (extended_place block.now) (32 * extended_fields block.now) }
 {
     let fault = header::header_fault(block);
@@ -126,8 +122,7 @@ pub extern "C" fn segd_extended(block: &[u8]) -> SegdPart
     )
 }
 
-#[unsafe(no_mangle)]
-pub extern "C" fn segd_external(block: &[u8]) -> SegdPart
+pub fn segd_external(block: &[u8]) -> SegdPart
     ensures { result ≡ flat_part (header_fault block.now) (external_place block.now) (32 * external_fields block.now) }
 {
     let fault = header::header_fault(block);
@@ -145,8 +140,7 @@ pub struct SegdSkew {
     pub length: u64,
 }
 
-#[unsafe(no_mangle)]
-pub extern "C" fn segd_skew(block: &[u8], sheet: &[u8], scan_type: u32) -> SegdSkew
+pub fn segd_skew(block: &[u8], sheet: &[u8], scan_type: u32) -> SegdSkew
     ensures { result ≡ flat_skew (skew_fault block.now sheet.now scan_type) block.now scan_type }
 {
     let fault = skew::skew_fault(block, sheet, scan_type);
@@ -178,8 +172,7 @@ pub struct SegdByte {
     pub value: u8,
 }
 
-#[unsafe(no_mangle)]
-pub extern "C" fn segd_skew_at(block: &[u8], sheet: &[u8], scan_type: u32, k: u32) -> SegdByte
+pub fn segd_skew_at(block: &[u8], sheet: &[u8], scan_type: u32, k: u32) -> SegdByte
     ensures { result ≡ flat_byte (skew_answer block.now sheet.now scan_type k) }
 {
     let answer = skew::skew_at(block, sheet, scan_type, k);
@@ -203,14 +196,7 @@ pub struct SegdTime {
     pub time: u32,
 }
 
-#[unsafe(no_mangle)]
-pub extern "C" fn segd_sample_time(
-    block: &[u8],
-    sheet: &[u8],
-    scan_type: u32,
-    k: u32,
-    t: u32,
-) -> SegdTime
+pub fn segd_sample_time(block: &[u8], sheet: &[u8], scan_type: u32, k: u32, t: u32) -> SegdTime
     ensures { result ≡ flat_time (time_answer block.now sheet.now scan_type k t) }
 {
     let answer = skew::sample_time(block, sheet, scan_type, k, t);

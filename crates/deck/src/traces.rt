@@ -37,8 +37,7 @@ fn trace_gave(g: Gave) -> SegdTraceGave
 }
 
 // Where `out` has fewer than two numbers for each byte of the portion, it is refused (ROOM).
-#[unsafe(no_mangle)]
-pub extern "C" fn segd_trace_portion(
+pub fn segd_trace_portion(
     block: &[u8],
     state: State,
     bytes: &[u8],
@@ -51,15 +50,13 @@ pub extern "C" fn segd_trace_portion(
 }
 
 // A block end, which is the end of a trace.
-#[unsafe(no_mangle)]
-pub extern "C" fn segd_trace_end(block: &[u8], state: State) -> SegdTraceGave
+pub fn segd_trace_end(block: &[u8], state: State) -> SegdTraceGave
     ensures { result ≡ flat_trace_gave (block_end block.now state) }
 {
     trace_gave(trace_body::block_end(block, state))
 }
 
-#[unsafe(no_mangle)]
-pub extern "C" fn segd_trace_close(block: &[u8], state: State) -> SegdClosing
+pub fn segd_trace_close(block: &[u8], state: State) -> SegdClosing
     ensures { result ≡ flat_closing (close block.now state) }
 {
     closing(trace_body::close(block, state))
@@ -77,8 +74,7 @@ pub struct SegdTracePlace {
     pub subscan: u32,
 }
 
-#[unsafe(no_mangle)]
-pub extern "C" fn segd_trace_place(block: &[u8], trace: u32, sample: u32) -> SegdTracePlace
+pub fn segd_trace_place(block: &[u8], trace: u32, sample: u32) -> SegdTracePlace
     ensures { result ≡ flat_trace_place (placed_at block.now trace sample) }
 {
     let answer = turns::place(block, trace, sample);
