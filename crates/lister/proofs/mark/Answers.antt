@@ -18,4 +18,4 @@ returns-in-Line c =
     let c3 = c2 in
     let c4 = c3 in
     let l = c1.record_line-to.ensures in
-    rw (← c4.outcome-s.ensures, c3.in-Line.is, ← c2.wrapping_add_u64-next.ensures) (rw l.0, l.1)
+    rw (← c4.outcome-s.ensures, c3.in-Line.is, ← c2.wrapping_add_u64-next.ensures.value) (rw l.0, l.1)

@@ -1,0 +1,7 @@
+-- `deck::bodies::segd_block_end` meets its contract.
+-- Assumes nothing.
+use borrow.Author.Rules.{rules}
+use Rattle.deck.proofs.bodies.segd_block_end.Goals as goal
+
+pub returns : goal.returns
+returns c = rw (← c.block_end.ensures) c.gave.ensures

@@ -1,0 +1,10 @@
+-- `deck::bodies::why` meets its contract.
+-- Assumes nothing.
+use borrow.Author.Rules.{rules}
+use Rattle.deck.proofs.bodies.why.Goals as goal
+
+pub returns-in-Whole : goal.returns-in-Whole
+returns-in-Whole c = rw (c.in-Whole.is, c.unrefused.ensures)
+
+pub returns-in-Refused : goal.returns-in-Refused
+returns-in-Refused c = rw (c.in-Refused.is, c.tell.ensures)

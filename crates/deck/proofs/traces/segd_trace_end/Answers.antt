@@ -1,0 +1,7 @@
+-- `deck::traces::segd_trace_end` meets its contract.
+-- Assumes nothing.
+use borrow.Author.Rules.{rules}
+use Rattle.deck.proofs.traces.segd_trace_end.Goals as goal
+
+pub returns : goal.returns
+returns c = rw (← c.block_end.ensures) c.trace_gave.ensures
