@@ -45,8 +45,8 @@ fn put(out: &mut [i32], k: usize, w: Value)
 // The two bytes from i on, the least first. To load a word and to turn it round are two functions: in one expression LLVM loads its bytes one by one.
 fn little2(bytes: &[u8], i: usize) -> u16
     requires { i + 1 < length bytes.now }
-    ensures result_value { result % 256 ≡ byte_in bytes.now i }
-    ensures result_value_2 { result / 256 ≡ byte_in bytes.now (i + 1) }
+    ensures byte_0 { result % 256 ≡ byte_in bytes.now i }
+    ensures byte_1 { result / 256 ≡ byte_in bytes.now (i + 1) }
 {
     (bytes[i] as u16) + (bytes[i + 1] as u16) * 256
 }
@@ -54,10 +54,10 @@ fn little2(bytes: &[u8], i: usize) -> u16
 // The four bytes from i on, the least first.
 fn little4(bytes: &[u8], i: usize) -> u32
     requires { i + 3 < length bytes.now }
-    ensures result_value { result % 256 ≡ byte_in bytes.now i }
-    ensures result_value_2 { result / 256 % 256 ≡ byte_in bytes.now (i + 1) }
-    ensures result_value_3 { result / 65536 % 256 ≡ byte_in bytes.now (i + 2) }
-    ensures result_value_4 { result / 16777216 ≡ byte_in bytes.now (i + 3) }
+    ensures byte_0 { result % 256 ≡ byte_in bytes.now i }
+    ensures byte_1 { result / 256 % 256 ≡ byte_in bytes.now (i + 1) }
+    ensures byte_2 { result / 65536 % 256 ≡ byte_in bytes.now (i + 2) }
+    ensures byte_3 { result / 16777216 ≡ byte_in bytes.now (i + 3) }
 {
     (bytes[i] as u32)
         + (bytes[i + 1] as u32) * 256

@@ -8,4 +8,4 @@ use Rattle.runs.proofs.big2.Goals as goal
 pub returns : goal.returns
 returns c =
     let l = c.little2.ensures in
-    c.swapped2.ensures ∙ rw (l.result_value, l.result_value_2) (sym (written_two _ _))
+    c.swapped2.ensures ∙ rw (l.byte_0, l.byte_1) (sym (written_two _ _))

@@ -8,4 +8,4 @@ use Rattle.runs.proofs.big4.Goals as goal
 pub returns : goal.returns
 returns c =
     let l = c.little4.ensures in
-    c.swapped4.ensures ∙ rw (l.result_value, l.result_value_2, l.result_value_3, l.result_value_4) (sym (written_four _ _))
+    c.swapped4.ensures ∙ rw (l.byte_0, l.byte_1, l.byte_2, l.byte_3) (sym (written_four _ _))

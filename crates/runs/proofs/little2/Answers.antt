@@ -19,4 +19,4 @@ pub overflow_add-result-2 : goal.overflow_add-result-2
 overflow_add-result-2 c = omega (arith, c.type_inv.bytes c.args.i, c.type_inv.bytes (c.args.i + 1))
 
 pub returns : goal.returns
-returns c = (let all = little_two (c.type_inv.bytes c.args.i).fits (c.type_inv.bytes (c.args.i + 1)).fits in (record { result_value = all.0; result_value_2 = all.1 }))
+returns c = (let all = little_two (c.type_inv.bytes c.args.i).fits (c.type_inv.bytes (c.args.i + 1)).fits in (record { byte_0 = all.0; byte_1 = all.1 }))

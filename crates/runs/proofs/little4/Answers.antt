@@ -39,4 +39,4 @@ overflow_add-result-6 c = omega (arith, c.type_inv.bytes c.args.i, c.type_inv.by
 pub returns : goal.returns
 returns c =
     let all = little_four (c.type_inv.bytes c.args.i).fits (c.type_inv.bytes (c.args.i + 1)).fits (c.type_inv.bytes (c.args.i + 2)).fits (c.type_inv.bytes (c.args.i + 3)).fits in
-    record { result_value = all.0; result_value_2 = all.1.0; result_value_3 = all.1.1.0; result_value_4 = all.1.1.1 }
+    record { byte_0 = all.0; byte_1 = all.1.0; byte_2 = all.1.1.0; byte_3 = all.1.1.1 }
