@@ -34,7 +34,6 @@ use Rattle.rules.specs.Outcome.{stop_of, done_of, numbers_of, closing}
 use Rattle.agree.specs.Calls.{Call, put, end, Bytes, BytesIn, Reading, read_on, reading_of, taken, body_of}
 use Rattle.agree.specs.Answers.{answer_from, answer_to, closed_of}
 use Rattle.agree.specs.Agreement.{Agreement, Unopened, TurnedAway, NoScans}
-use Rattle.agree.proofs.Plans.{scan}
 use Rattle.agree.proofs.Form.{head_of}
 use Rattle.agree.proofs.Whole.{stop_in, AgreesAt, agree_pieces}
 use Rattle.agree.proofs.Bytes.{below, small}

@@ -2,16 +2,12 @@
 -- Assumes nothing.
 use Prim.Native.Nat.{ℕ, suc, ◌+◌, ◌-◌, ◌*◌, ◌/◌, ◌%◌, ◌≤◌, ◌<◌}
 use mathlib.Core.Path.{◌≡◌, ap, ◌∙◌}
-use mathlib.Core.Bool.{Bool, true, false}
-use mathlib.Core.Logic.{◌⊎◌, inl, inr}
+use mathlib.Core.Logic.{◌⊎◌}
 use native.Mathlib.Nat.{mod-lt, div-lt_iff_lt-mul, zero-div, zero-mod, zero-sub, mul-div_cancel, mul-mod_left, mul-le-mul_right}
 use native.Mathlib.Omega.{arith}
 use lib.Arith.{digits_div, digits_mod, digits_lt}
-use lib.Dec.{ltb}
-use borrow.Author.Tests.{ltb-true, ltb-false}
 use Rattle.basis.specs.Digits.{written}
 use Rattle.basis.specs.Fields.{field}
-use Rattle.basis.proofs.Digits.{Next, along, wrap, next}
 use Rattle.codes.specs.Codes.{group_of, per_of, lead_of, word_bytes_of, bits_of}
 use Rattle.codes.proofs.Rows.{Sized}
 use Rattle.words.specs.Words.{value_of}

@@ -26,7 +26,7 @@ use Rattle.stream.specs.declared.Answer.TheVariants as A
 use Rattle.stream.specs.Calls as K
 use Rattle.body.specs.Ends as N
 use Rattle.rules.proofs.Machine.{Run}
-use Rattle.agree.specs.Cuts.{portion, block_end}
+use Rattle.agree.specs.Cuts.{portion}
 use Rattle.agree.specs.Calls.{Call, put, end, Reading, read_on, taken}
 use Rattle.agree.specs.Answers.{answer_from, room_answer}
 use Rattle.agree.proofs.Cuts.{pieces}

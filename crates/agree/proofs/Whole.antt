@@ -37,7 +37,7 @@ use Rattle.body.specs.declared.Closing as B
 use Rattle.rules.specs.Tape.{Body, ends, start_of, size, byte_at}
 use Rattle.rules.specs.Scans.{Shape}
 use Rattle.rules.specs.Faults.{byte_fault, end_fault}
-use Rattle.rules.specs.Outcome.{Report, Closing, refused, report, answered, stop_of, numbers_of, report_of, closing, last_type, first_itb, first_window}
+use Rattle.rules.specs.Outcome.{Report, report, answered, stop_of, numbers_of, report_of, closing, last_type, first_itb, first_window}
 use Rattle.refusals.proofs.Clears.{clear_at}
 use Rattle.rules.proofs.Tapes.{size_last}
 use Rattle.rules.proofs.Laws.{Halts, long, block, sync, timing, phase, halts_at, byte_halts, end_halts, stop_halts}

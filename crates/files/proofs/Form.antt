@@ -34,7 +34,7 @@ use Rattle.listing.specs.Lines.{line_of}
 use Rattle.files.specs.declared.File.{File}
 use Rattle.files.specs.declared.File.TheVariants.{Empty, Heading, Large, Refused, Blocks, Traces}
 use Rattle.files.specs.declared.AtMark.TheVariants.{Line}
-use Rattle.files.specs.Outcomes.{body_in, closing_of, reported, by_header, outcome_of}
+use Rattle.files.specs.Outcomes.{body_in, reported, by_header, outcome_of}
 use Rattle.files.specs.File.{part_of, buffer_after, item_end, headed_by, closed_of, traces_closed, traces_at, said_of}
 use Rattle.scan.proofs.Fold.{after_append}
 use Rattle.stream.proofs.Cuts.{portion_state}

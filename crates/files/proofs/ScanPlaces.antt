@@ -7,7 +7,7 @@ use mathlib.Core.List.{List, [], ◌∷◌}
 use native.Mathlib.Omega.{arith}
 use borrow.Author.Tests.{eqb-false}
 use lib.Dec.{eqb}
-use lib.ListN.{length, length-append}
+use lib.ListN.{length}
 use Rattle.basis.proofs.Choices.{pick_both}
 use Rattle.scan.specs.declared.State.{State}
 use Rattle.scan.specs.declared.Track.{Track}

@@ -26,7 +26,7 @@ use Rattle.trace.specs.Answers.{unchanged, checked}
 use Rattle.trace_body.specs.Ends.{one_end, tally, ended, end_on}
 use Rattle.trace_body.specs.Calls.{end_gave, block_end}
 use Rattle.trace_body.specs.Open.{fresh, opened_on, opened}
-use Rattle.files.proofs.Blocks.{state_after, body_place}
+use Rattle.files.proofs.Blocks.{body_place}
 use Rattle.files.proofs.Traces.{ends, traces_after}
 
 -- unless it stops, one byte on

@@ -21,7 +21,6 @@ use Rattle.header.specs.Faults.{header_fault}
 use Rattle.header.specs.Answers.{is_set}
 use Rattle.general.proofs.Kept.{within_is}
 use Rattle.header.proofs.Accepted.{types_few, sets_few, samples_small}
-use Rattle.layout.specs.declared.Index.{Index}
 use Rattle.layout.specs.declared.Index.TheVariants.{Sample}
 use Rattle.layout.specs.declared.Place.{Place}
 use Rattle.layout.specs.declared.Place.TheVariants.{Sits}

@@ -1,6 +1,6 @@
 -- However an image is cut, what the lister hands over is the whole image's listing.
 -- Assumes nothing.
-use Rattle.std.proofs.Common.{◌≡◌, ℕ, zero, suc, ◌+◌, ◌-◌, ◌/◌, ◌^◌, ◌<◌, ◌≤◌, Bool, true, false, leb, List, [], ◌∷◌, ◌++◌, map, length, drop, sym, refl, ap, ◌∙◌, append_assoc, append-nil, zero-add, arith, length-drop, length-take, le-ltb, leb-false}
+use Rattle.std.proofs.Common.{◌≡◌, ℕ, zero, suc, ◌+◌, ◌-◌, ◌/◌, ◌<◌, ◌≤◌, Bool, true, false, leb, List, [], ◌∷◌, ◌++◌, map, length, drop, sym, refl, ap, ◌∙◌, append_assoc, append-nil, zero-add, arith, length-drop, length-take, le-ltb, leb-false}
 use lib.Seq.{length-sets}
 use Rattle.basis.specs.Choice.{pick}
 use Rattle.framing.specs.declared.Frame.{Frame}

@@ -1,6 +1,6 @@
 -- A step of the lister from within a portion goes on, and stays within it; and a loop of steps does all of a portion.
 -- Assumes nothing.
-use Rattle.std.proofs.Common.{◌≡◌, ℕ, zero, suc, ◌+◌, ◌-◌, ◌≤◌, Bool, true, false, leb, List, length, refl, ap, append-nil, arith, le-leb, leb-false, leb-true}
+use Rattle.std.proofs.Common.{◌≡◌, ℕ, zero, suc, ◌+◌, ◌≤◌, Bool, true, false, leb, List, length, refl, ap, append-nil, arith, le-leb, leb-false, leb-true}
 use Rattle.basis.specs.Choice.{pick}
 use Rattle.framing.specs.Next.{next_of}
 use Rattle.framing.proofs.Forward.{forward}

@@ -1,6 +1,6 @@
 -- The calls of the lister: its start, a portion of an image, the end of the image; and what a read's answer means.
 -- Assumes nothing.
-use Rattle.std.specs.Prelude.{ℕ, ◌+◌, ◌/◌, Bool, ◌&&◌, List, [], length, ℤ, ◌==◌, nat_le, nat_lt}
+use Rattle.std.specs.Prelude.{ℕ, ◌/◌, Bool, ◌&&◌, List, [], length, ℤ, ◌==◌, nat_le, nat_lt}
 use Rattle.basis.specs.Choice.{pick}
 use Rattle.framing.specs.declared.Frame.TheVariants.{Start}
 use Rattle.framing.specs.Next.{ending_of}

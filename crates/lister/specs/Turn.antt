@@ -1,6 +1,6 @@
 -- One step of the lister over an image, and all of a portion: its progress, the buffers of header and numbers, and the lines that it makes.
 -- Assumes nothing.
-use Rattle.std.specs.Prelude.{ℕ, zero, suc, ◌+◌, ◌%◌, ◌^◌, List, [], ◌∷◌, ◌++◌, length, ℤ}
+use Rattle.std.specs.Prelude.{ℕ, zero, suc, ◌+◌, ◌%◌, ◌^◌, List, [], ◌++◌, length, ℤ}
 use Rattle.framing.specs.declared.Met.{Met}
 use Rattle.framing.specs.declared.Met.TheVariants.{Framing, Part, Whole, Mark}
 use Rattle.framing.specs.Next.{next_of}

@@ -1,6 +1,6 @@
 -- What one byte of a trace body does to the reader's state: "per byte 14, 15", then 24 in a trace header.
 -- Assumes nothing.
-use Rattle.std.specs.Prelude.{ℕ, ◌+◌, ◌-◌, ◌*◌, ◌/◌, ◌%◌, Bool, true, false, ◌&&◌, ◌||◌, List, [], ◌∷◌, ◌++◌, ℤ, eqb, ltb, leb}
+use Rattle.std.specs.Prelude.{ℕ, ◌+◌, ◌-◌, ◌/◌, ◌%◌, Bool, true, false, ◌&&◌, ◌||◌, List, [], ◌∷◌, ◌++◌, ℤ, eqb, ltb, leb}
 use Rattle.basis.specs.Choice.{pick, ◌or◌}
 use Rattle.codes.specs.Codes.{group_of}
 use Rattle.words.specs.Words.{value_of, off_one}

@@ -1,6 +1,6 @@
 -- The reader's calls, by the machine that takes one byte or block end at a time.
 -- Assumes nothing.
-use Prim.Native.Nat.{ℕ, ◌*◌, ◌/◌, ◌≤◌}
+use Prim.Native.Nat.{ℕ, ◌*◌, ◌/◌}
 use mathlib.Core.Path.{◌≡◌, refl, sym, ap, ◌∙◌}
 use mathlib.Core.Bool.{Bool, true, false}
 use mathlib.Core.List.{List, [], ◌∷◌, ◌++◌, append-nil}
@@ -18,7 +18,6 @@ use Rattle.rules.proofs.Machine.{Run}
 use Rattle.trace.specs.declared.State.{State}
 use Rattle.trace.specs.declared.Gave.{Gave}
 use Rattle.trace.specs.Step as S
-use Rattle.trace_body.specs.Ends as E
 use Rattle.trace.specs.Fit.{fitb}
 use Rattle.trace.specs.Answers as T
 use Rattle.trace_stream.specs.Calls as K

@@ -11,7 +11,7 @@ use native.Mathlib.Numerals.{add-one}
 use lib.Arith.{digits_mod}
 use lib.Dec.{eqb, ltb, lit≤}
 use borrow.Author.Tests.{eqb-true, eqb-false, ltb-true, ltb-false, lt-ltb, le-ltb, eq-eqb, ne_eqb}
-use Rattle.basis.specs.Choice.{pick, ◌and◌, ◌or◌}
+use Rattle.basis.specs.Choice.{pick, ◌and◌}
 use Rattle.basis.specs.Digits.{written}
 use Rattle.basis.specs.Fields.{field}
 use Rattle.basis.proofs.Digits.{Next, along, wrap, next}

@@ -1,6 +1,6 @@
 -- The reader of traces follows the rules: over any pieces, its state, what it wrote and its closing answer are the rules' for the body that the pieces spell.
 -- Assumes nothing.
-use Prim.Native.Nat.{ℕ, zero, suc, ◌+◌, ◌-◌, ◌%◌, ◌≤◌, ◌<◌}
+use Prim.Native.Nat.{ℕ, zero, suc, ◌+◌, ◌-◌, ◌%◌, ◌<◌}
 use mathlib.Core.Path.{◌≡◌, refl, sym, ap, ◌∙◌, subst}
 use mathlib.Core.Bool.{Bool, true, false, not}
 use mathlib.Core.List.{List, [], ◌∷◌, ◌++◌, append-nil, append_assoc}
@@ -22,8 +22,6 @@ use Rattle.refusals.proofs.Clears.{clear_at}
 use Rattle.codes.specs.Codes.{group_of}
 use Rattle.general.specs.General.{code_of, scan_types}
 use Rattle.turns.specs.Turns.{turn_at, turn_in}
-use Rattle.body.specs.declared.Closed.TheVariants as C
-use Rattle.body.specs.declared.Closing as B
 use Rattle.body.specs.Ends as N
 use Rattle.rules.specs.Tape.{Body, ends, start_of, size, byte_at}
 use Rattle.rules.specs.Outcome.{Report, report, answered}
@@ -43,7 +41,6 @@ use Rattle.trace_body.specs.Open as O
 use Rattle.agree.specs.Cuts.{Piece, spelled}
 use Rattle.agree.specs.Answers.{closed_of}
 use Rattle.agree.proofs.Cuts.{pieces, pieces_uncut}
-use Rattle.agree.proofs.Form.{tail}
 use Rattle.agree.proofs.Whole.{same_at}
 use Rattle.trace_agree.proofs.Counts.{Sizes, none_yet}
 use Rattle.trace_agree.proofs.Form.{exps_in, form, halt_at}

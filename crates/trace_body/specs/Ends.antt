@@ -1,6 +1,6 @@
 -- What a block end does to the reader's state: "block end 15, 8, 25".
 -- Assumes nothing.
-use Rattle.std.specs.Prelude.{ℕ, ◌+◌, ◌-◌, ◌*◌, ◌/◌, ◌%◌, Bool, true, false, List, eqb, ltb, leb}
+use Rattle.std.specs.Prelude.{ℕ, ◌+◌, ◌-◌, ◌*◌, ◌/◌, ◌%◌, Bool, false, List, eqb, ltb, leb}
 use Rattle.basis.specs.Choice.{pick, ◌and◌}
 use Rattle.turns.specs.Turns.{subscans_at}
 use Rattle.trace.specs.declared.Look.{Look}

@@ -19,7 +19,6 @@ use Rattle.sets.specs.Descriptors.{descriptor_place}
 use Rattle.sets.specs.Samples.{samples_before}
 use Rattle.skew.specs.Skews.{source, skew_place, skew_byte}
 use Rattle.turns.specs.declared.Turn.{Turn}
-use Rattle.turns.specs.declared.Holder.{Holder}
 use Rattle.turns.specs.Turns.{holder_of, skew_at}
 
 -- the one that begins at k or before and ends after it

@@ -1,6 +1,6 @@
 -- A one-byte word of an 80xx code is that of the code without the 8: their rows differ in the code alone.
 -- Assumes nothing.
-use Prim.Native.Nat.{ℕ, ◌+◌, ◌<◌, ◌≤◌}
+use Prim.Native.Nat.{ℕ, ◌+◌, ◌<◌}
 use mathlib.Core.Path.{◌≡◌, refl, ◌∙◌, ap}
 use mathlib.Core.Bool.{Bool, true, false}
 use native.Mathlib.Omega.{arith}
@@ -8,7 +8,6 @@ use lib.Dec.{ltb}
 use borrow.Author.Tests.{ltb-true, ltb-false}
 use Rattle.basis.specs.Choice.{pick}
 use Rattle.codes.specs.Codes.{row_of, find_in, table, stem_of}
-use Rattle.words.specs.declared.Word.{Word}
 use Rattle.words.specs.Words.{sample_in, word_in, word_of}
 use Rattle.words.specs.Tables.{OneByte, is22, is42}
 

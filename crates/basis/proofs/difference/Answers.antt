@@ -5,7 +5,6 @@ use native.Mathlib.Nat.{mod-lt}
 use lib.Pow.{pow_pos}
 use mir.Syntax.{w32}
 use Rattle.basis.proofs.Numbers.{minus_fits, minus_is}
-use borrow.Author.Rules.{rules}
 use Rattle.basis.proofs.difference.Goals as goal
 
 pub overflow_sub-result : goal.overflow_sub-result

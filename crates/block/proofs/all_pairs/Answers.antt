@@ -1,14 +1,12 @@
 -- `block::all_pairs` meets its contract.
 -- Assumes nothing.
-use Prim.Native.Nat.{◌+◌, ◌-◌, ◌≤◌}
-use mathlib.Core.Bool.{true}
+use Prim.Native.Nat.{◌+◌, ◌-◌}
 use mathlib.Core.Path.{◌≡◌, refl, sym}
 use native.Mathlib.Omega.{arith}
 use borrow.Author.Rules.{rules}
-use borrow.Author.Tests.{not-true, not-false}
 use Rattle.basis.proofs.Uptos.{upto_more, all_fails}
-use Rattle.basis.specs.Upto.{upto, all_upto}
-use Rattle.block.specs.Bytes.{pair_from, pairs}
+use Rattle.basis.specs.Upto.{upto}
+use Rattle.block.specs.Bytes.{pairs}
 use Rattle.block.proofs.all_pairs.Goals as goal
 
 pub loop-i-init : goal.loop-i-init

@@ -2,13 +2,9 @@
 -- Assumes nothing.
 use Prim.Native.Nat.{◌+◌, ◌-◌, ◌≤◌}
 use mathlib.Core.Bool.{true}
-use mathlib.Core.Path.{◌≡◌, refl, sym}
-use native.Mathlib.Omega.{arith}
-use borrow.Author.Rules.{rules}
-use borrow.Author.Tests.{not-true, not-false}
-use Rattle.basis.proofs.Uptos.{upto_more, all_fails}
-use Rattle.basis.specs.Upto.{upto, all_upto}
-use Rattle.block.specs.Bytes.{pair_from, pairs}
+use mathlib.Core.Path.{◌≡◌}
+use Rattle.basis.specs.Upto.{all_upto}
+use Rattle.block.specs.Bytes.{pair_from}
 use Rattle.block.proofs.all_pairs.Given as goal
 
 abbrev pub invariant-loop-i : goal.invariant-loop-i

@@ -1,7 +1,6 @@
 -- `block::byte_at` meets its contract.
 -- Assumes nothing.
 use mathlib.Core.Path.{sym}
-use borrow.Author.Rules.{rules}
 use lib.ListN.{get_or-eq_default}
 use Rattle.block.specs.Bytes.{byte}
 use Rattle.block.proofs.byte_at.Goals as goal

@@ -1,7 +1,6 @@
 -- `block::lower_at` meets its contract.
 -- Assumes nothing.
 use native.Mathlib.Omega.{arith}
-use borrow.Author.Rules.{rules}
 use Rattle.block.specs.Bytes.{lower}
 use Rattle.block.proofs.lower_at.Goals as goal
 

@@ -1,6 +1,5 @@
 -- `block::packed` meets its contract.
 -- Assumes nothing.
-use borrow.Author.Rules.{rules}
 use Rattle.basis.specs.Choice.{pick}
 use Rattle.block.specs.Bytes.{packed_of}
 use Rattle.block.proofs.packed.Goals as goal

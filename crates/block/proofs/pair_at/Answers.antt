@@ -1,7 +1,6 @@
 -- `block::pair_at` meets its contract.
 -- Assumes nothing.
 use native.Mathlib.Omega.{arith}
-use borrow.Author.Rules.{rules}
 use Rattle.block.specs.Bytes.{pair}
 use Rattle.block.proofs.Numbers.{pair_small}
 use Rattle.block.proofs.pair_at.Goals as goal

@@ -1,7 +1,6 @@
 -- `block::pair_of` meets its contract.
 -- Assumes nothing.
 use native.Mathlib.Omega.{arith}
-use borrow.Author.Rules.{rules}
 use Rattle.block.specs.Bytes.{pair_of}
 use Rattle.block.proofs.pair_of.Goals as goal
 

@@ -1,6 +1,5 @@
 -- `block::three_digits` meets its contract.
 -- Assumes nothing.
-use borrow.Author.Rules.{rules}
 use Rattle.block.specs.Bytes.{three_digits}
 use Rattle.block.proofs.three_digits.Goals as goal
 

@@ -1,6 +1,5 @@
 -- `block::three_pairs` meets its contract.
 -- Assumes nothing.
-use borrow.Author.Rules.{rules}
 use Rattle.block.proofs.Numbers.{three_is}
 use Rattle.block.proofs.three_pairs.Goals as goal
 

@@ -1,6 +1,5 @@
 -- `block::two_pairs` meets its contract.
 -- Assumes nothing.
-use borrow.Author.Rules.{rules}
 use Rattle.block.proofs.Numbers.{two_is}
 use Rattle.block.proofs.two_pairs.Goals as goal
 

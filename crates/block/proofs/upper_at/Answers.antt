@@ -1,7 +1,6 @@
 -- `block::upper_at` meets its contract.
 -- Assumes nothing.
 use native.Mathlib.Omega.{arith}
-use borrow.Author.Rules.{rules}
 use Rattle.block.specs.Bytes.{upper}
 use Rattle.block.proofs.upper_at.Goals as goal
 

@@ -1,6 +1,5 @@
 -- `block::word_at` meets its contract.
 -- Assumes nothing.
-use borrow.Author.Rules.{rules}
 use Rattle.block.proofs.Numbers.{word_is}
 use Rattle.block.proofs.word_at.Goals as goal
 

@@ -6,7 +6,6 @@ use mathlib.Core.Path.{sym, ◌∙◌}
 use Rattle.body.specs.Ends.{block_end}
 use Rattle.basis.specs.Choice.{pick}
 use Rattle.basis.proofs.Rules.{tests}
-use borrow.Author.Rules.{rules}
 use Rattle.body.proofs.block_end.Goals as goal
 
 pub end-requires : goal.end-requires

@@ -5,7 +5,6 @@ use Rattle.basis.specs.Choice.{pick}
 use Rattle.basis.proofs.Rules.{tests}
 use Rattle.scan.proofs.Shapes.{fit_of}
 use Rattle.body.specs.Ends.{close}
-use borrow.Author.Rules.{rules}
 use Rattle.body.proofs.close.Goals as goal
 
 pub finish-requires : goal.finish-requires

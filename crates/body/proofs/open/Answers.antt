@@ -1,11 +1,10 @@
 -- `body::open` meets its contract.
 -- Assumes nothing.
-use mathlib.Core.Path.{sym, ◌∙◌}
+use mathlib.Core.Path.{sym}
 use borrow.Author.Tests.{le-leb, lt-leb}
 use Rattle.basis.specs.Choice.{pick}
 use Rattle.body.specs.Open.{opened}
 use Rattle.body.proofs.Opens.{exponent_low}
-use borrow.Author.Rules.{rules}
 use Rattle.body.proofs.open.Goals as goal
 
 pub returns-then-h-ge32768 : goal.returns-then-h-ge32768

@@ -1,10 +1,9 @@
 -- `codes::bits` meets its contract.
 -- Assumes nothing.
 use Rattle.codes.proofs.Rows.{fit}
-use mathlib.Core.Path.{sym, ◌∙◌}
+use mathlib.Core.Path.{sym}
 use Rattle.codes.specs.Codes.{bits_of}
 use native.Mathlib.Omega.{arith}
-use borrow.Author.Rules.{rules}
 use Rattle.codes.proofs.bits.Goals as goal
 
 pub returns-in-At : goal.returns-in-At

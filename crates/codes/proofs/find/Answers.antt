@@ -1,9 +1,7 @@
 -- `codes::find` meets its contract.
 -- Assumes nothing.
-use Prim.Native.Nat.{◌≤◌, ◌-◌}
 use mathlib.Core.Path.{◌≡◌, refl, sym, ◌∙◌}
 use native.Mathlib.Omega.{arith}
-use lib.ListN.{drop}
 use Rattle.codes.proofs.Search.{here, next}
 use borrow.Author.Rules.{rules}
 use Rattle.codes.specs.Codes.{row_of, find_in, table}

@@ -1,12 +1,9 @@
 -- `codes::find` meets its contract.
 -- Assumes nothing.
 use Prim.Native.Nat.{◌≤◌, ◌-◌}
-use mathlib.Core.Path.{◌≡◌, refl, sym, ◌∙◌}
-use native.Mathlib.Omega.{arith}
+use mathlib.Core.Path.{◌≡◌}
 use lib.ListN.{drop}
-use Rattle.codes.proofs.Search.{here, next}
-use borrow.Author.Rules.{rules}
-use Rattle.codes.specs.Codes.{row_of, find_in, table}
+use Rattle.codes.specs.Codes.{find_in, table}
 use Rattle.codes.proofs.find.Given as goal
 
 abbrev pub invariant-loop-i : goal.invariant-loop-i

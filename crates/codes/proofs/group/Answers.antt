@@ -1,8 +1,7 @@
 -- `codes::group` meets its contract.
 -- Assumes nothing.
-use mathlib.Core.Path.{sym, ◌∙◌}
+use mathlib.Core.Path.{sym}
 use Rattle.codes.specs.Codes.{group_of}
-use borrow.Author.Rules.{rules}
 use Rattle.codes.proofs.group.Goals as goal
 
 pub returns-in-At : goal.returns-in-At

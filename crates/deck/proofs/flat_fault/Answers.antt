@@ -1,6 +1,5 @@
 -- `deck::flat_fault` meets its contract.
 -- Assumes nothing.
-use borrow.Author.Rules.{rules}
 use Rattle.deck.proofs.flat_fault.Goals as goal
 
 pub returns-in-At : goal.returns-in-At

@@ -1,6 +1,5 @@
 -- `deck::segd_format` meets its contract.
 -- Assumes nothing.
-use borrow.Author.Rules.{rules}
 use Rattle.deck.proofs.segd_format.Goals as goal
 
 pub returns-in-At : goal.returns-in-At

@@ -1,7 +1,6 @@
 -- `files::closed` meets its contract: the closing answer, whole or refused.
 -- Assumes nothing.
 use mathlib.Core.Path.{◌∙◌}
-use borrow.Author.Rules.{rules}
 use Rattle.files.proofs.closed.Goals as goal
 
 pub returns : goal.returns

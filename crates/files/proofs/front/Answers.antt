@@ -3,7 +3,6 @@
 use mathlib.Core.Path.{sym, ◌∙◌}
 use native.Mathlib.Omega.{arith}
 use lib.Seq.{take-length, take_all}
-use borrow.Author.Rules.{rules}
 use Rattle.files.proofs.front.Goals as goal
 
 pub returns-else-got-header : goal.returns-else-got-header

@@ -6,7 +6,6 @@ use mathlib.Core.Path.{sym, ◌∙◌}
 use native.Mathlib.Omega.{arith}
 use borrow.Author.Tests.{leb-true}
 use lib.ListN.{length}
-use borrow.Author.Rules.{rules}
 use Rattle.files.proofs.gather.Goals as goal
 
 pub overflow_add-result : goal.overflow_add-result

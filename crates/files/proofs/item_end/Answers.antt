@@ -4,7 +4,6 @@ use Rattle.basis.specs.Choice.{pick}
 use mathlib.Core.Path.{sym}
 use lib.Seq.{length-take-le}
 use borrow.Author.Tests.{lt-ltb, le-ltb}
-use borrow.Author.Rules.{rules}
 use Rattle.files.proofs.item_end.Goals as goal
 
 pub returns-then-header-got : goal.returns-then-header-got

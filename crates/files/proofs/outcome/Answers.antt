@@ -1,6 +1,5 @@
 -- `files::outcome` meets its contract: one case for each state of a file.
 -- Assumes nothing.
-use borrow.Author.Rules.{rules}
 use Rattle.files.proofs.outcome.Goals as goal
 
 pub returns-in-Large : goal.returns-in-Large

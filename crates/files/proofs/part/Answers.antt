@@ -2,7 +2,6 @@
 -- Assumes nothing.
 use mathlib.Core.Path.{refl, sym}
 use lib.Seq.{length-take-le}
-use borrow.Author.Rules.{rules}
 use Rattle.files.proofs.part.Goals as goal
 
 pub slice_bounds-portion-end : goal.slice_bounds-portion-end

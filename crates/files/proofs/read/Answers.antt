@@ -2,7 +2,6 @@
 -- Assumes nothing.
 use borrow.Author.Tests.{le-leb, lt-leb}
 use Rattle.basis.specs.Choice.{pick}
-use borrow.Author.Rules.{rules}
 use Rattle.files.proofs.read.Goals as goal
 
 pub returns-then-h-ge32768 : goal.returns-then-h-ge32768

@@ -1,6 +1,5 @@
 -- `files::told` meets its contract.
 -- Assumes nothing.
-use borrow.Author.Rules.{rules}
 use Rattle.files.proofs.told.Goals as goal
 
 pub returns-in-Refused : goal.returns-in-Refused

@@ -2,7 +2,6 @@
 -- Assumes nothing.
 use Rattle.basis.specs.Choice.{pick}
 use Rattle.basis.proofs.Rules.{tests}
-use borrow.Author.Rules.{rules}
 use Rattle.framing.proofs.in_item.Goals as goal
 
 pub returns-then-more-here : goal.returns-then-more-here

@@ -1,6 +1,5 @@
 -- `framing::meet` meets its contract: one case for each place where a reader may stand.
 -- Assumes nothing.
-use borrow.Author.Rules.{rules}
 use Rattle.framing.proofs.meet.Goals as goal
 
 pub returns-in-Start : goal.returns-in-Start

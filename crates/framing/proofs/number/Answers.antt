@@ -3,7 +3,6 @@
 use Rattle.basis.specs.Digits.{written}
 use Rattle.framing.specs.Image.{length_of}
 use Rattle.basis.proofs.Rules.{tests}
-use borrow.Author.Rules.{rules}
 use Rattle.framing.proofs.number.Goals as goal
 
 pub returns : goal.returns

@@ -1,7 +1,6 @@
 -- `general::counts_in_range` meets its contract.
 -- Assumes nothing.
 use Rattle.general.specs.General.{counts_in_range}
-use borrow.Author.Rules.{rules}
 use Rattle.general.proofs.counts_in_range.Goals as goal
 
 pub returns : goal.returns

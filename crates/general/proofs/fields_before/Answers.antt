@@ -2,7 +2,6 @@
 -- Assumes nothing.
 use Prim.Native.Nat.{◌+◌, ◌*◌, ◌<◌}
 use native.Mathlib.Omega.{arith}
-use borrow.Author.Rules.{rules}
 use Rattle.basis.proofs.Numbers.{product_lt}
 use Rattle.general.proofs.fields_before.Goals as goal
 use Rattle.general.proofs.fields_before.Lts as lts

@@ -1,6 +1,5 @@
 -- `general::general_digits` meets its contract.
 -- Assumes nothing.
-use borrow.Author.Rules.{rules}
 use Rattle.general.specs.General.{general_digits}
 use Rattle.general.proofs.general_digits.Goals as goal
 

@@ -1,6 +1,5 @@
 -- `general::header_length` meets its contract.
 -- Assumes nothing.
-use borrow.Author.Rules.{rules}
 use Rattle.general.specs.General.{header_length}
 use Rattle.general.proofs.header_length.Goals as goal
 

@@ -1,6 +1,5 @@
 -- `general::is_unknown` meets its contract.
 -- Assumes nothing.
-use borrow.Author.Rules.{rules}
 use Rattle.general.proofs.is_unknown.Goals as goal
 
 pub returns-in-At : goal.returns-in-At

@@ -3,7 +3,6 @@
 use borrow.Author.Tests.{le-leb, lt-leb}
 use Rattle.basis.specs.Choice.{pick}
 use Rattle.general.specs.General.{scan_in_range}
-use borrow.Author.Rules.{rules}
 use Rattle.general.proofs.scan_in_range.Goals as goal
 
 pub returns-then-code-ge32768 : goal.returns-then-code-ge32768

@@ -1,6 +1,5 @@
 -- `general::time_in_range` meets its contract.
 -- Assumes nothing.
-use borrow.Author.Rules.{rules}
 use Rattle.general.specs.General.{time_in_range}
 use Rattle.general.proofs.time_in_range.Goals as goal
 

@@ -1,13 +1,9 @@
 -- `header::descriptor` meets its contract.
 -- Assumes nothing.
-use mathlib.Core.Bool.{true}
-use mathlib.Core.Path.{◌≡◌, sym, ◌∙◌}
+use mathlib.Core.Path.{sym, ◌∙◌}
 use native.Mathlib.Omega.{arith}
-use borrow.Author.Rules.{rules}
 use Rattle.basis.specs.Choice.{pick}
-use Rattle.refusals.specs.declared.Fault.TheVariants.{Clear}
-use Rattle.header.specs.Answers.{is_set, descriptor_answer}
-use Rattle.header.specs.Faults.{header_fault}
+use Rattle.header.specs.Answers.{descriptor_answer}
 use Rattle.header.proofs.Accepted.{types_few, sets_few, set_is}
 use Rattle.header.proofs.descriptor.Goals as goal
 

@@ -1,6 +1,5 @@
 -- `header::fields` meets its contract.
 -- Assumes nothing.
-use borrow.Author.Rules.{rules}
 use Rattle.header.specs.Answers.{header_of}
 use Rattle.header.proofs.fields.Goals as goal
 

@@ -1,6 +1,5 @@
 -- `header::header_fault` meets its contract.
 -- Assumes nothing.
-use borrow.Author.Rules.{rules}
 use Rattle.basis.specs.Choice.{pick}
 use Rattle.header.specs.Faults.{header_fault}
 use Rattle.header.proofs.header_fault.Goals as goal

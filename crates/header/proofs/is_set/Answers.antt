@@ -1,6 +1,5 @@
 -- `header::is_set` meets its contract.
 -- Assumes nothing.
-use borrow.Author.Rules.{rules}
 use Rattle.general.specs.General.{within}
 use Rattle.header.specs.Answers.{is_set}
 use Rattle.header.proofs.is_set.Goals as goal

@@ -1,8 +1,7 @@
 -- `header::read_header` meets its contract.
 -- Assumes nothing.
-use mathlib.Core.Path.{sym, ◌∙◌}
+use mathlib.Core.Path.{sym}
 use native.Mathlib.Omega.{arith}
-use borrow.Author.Rules.{rules}
 use Rattle.header.specs.Answers.{header_answer}
 use Rattle.header.proofs.Accepted.{samples_small, first_type}
 use Rattle.header.proofs.read_header.Goals as goal

@@ -6,7 +6,6 @@ use Rattle.basis.specs.Choice.{pick}
 use Rattle.basis.proofs.Numbers.{product_lt}
 use Rattle.header.specs.Faults.{size_holds}
 use native.Mathlib.Omega.{arith}
-use borrow.Author.Rules.{rules}
 use Rattle.header.proofs.size_holds.Goals as goal
 use Rattle.header.proofs.size_holds.Lts as lts
 use Rattle.header.proofs.size_holds.Tie as tie

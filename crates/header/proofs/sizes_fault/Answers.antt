@@ -1,14 +1,11 @@
 -- `header::sizes_fault` meets its contract.
 -- Assumes nothing.
-use Prim.Native.Nat.{◌≤◌, ◌-◌}
 use mathlib.Core.Path.{◌≡◌, refl, sym}
 use native.Mathlib.Omega.{arith}
 use borrow.Author.Rules.{rules}
 use Rattle.basis.specs.Choice.{pick}
 use Rattle.basis.specs.Upto.{upto}
 use Rattle.refusals.proofs.Orders.{first_more, first_found}
-use Rattle.refusals.specs.Order.{first_upto}
-use Rattle.refusals.specs.declared.Fault.TheVariants.{Clear}
 use Rattle.header.specs.Faults.{size_fault, sizes_fault}
 use Rattle.header.proofs.sizes_fault.Goals as goal
 

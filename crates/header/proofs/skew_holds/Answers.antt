@@ -1,6 +1,5 @@
 -- `header::skew_holds` meets its contract.
 -- Assumes nothing.
-use borrow.Author.Rules.{rules}
 use Rattle.header.specs.Faults.{skew_holds}
 use Rattle.header.proofs.skew_holds.Goals as goal
 

@@ -1,9 +1,7 @@
 -- `layout::has_place` meets its contract: the set is looked for first, so that its numbers fit a byte.
 -- Assumes nothing.
-use Prim.Native.Nat.{◌≤◌}
 use mathlib.Core.Path.{sym, ◌∙◌}
 use native.Mathlib.Omega.{arith}
-use borrow.Author.Rules.{rules}
 use Rattle.basis.specs.Choice.{◌and◌}
 use Rattle.general.specs.General.{within}
 use Rattle.layout.specs.Indexes.{has_place}

@@ -1,10 +1,8 @@
 -- `layout::has_sample` meets its contract.
 -- Assumes nothing.
-use Prim.Native.Nat.{◌≤◌}
 use mathlib.Core.Path.{sym, ◌∙◌}
 use native.Mathlib.Omega.{arith}
 use Rattle.basis.specs.Choice.{◌and◌}
-use borrow.Author.Rules.{rules}
 use Rattle.layout.specs.Indexes.{has_sample}
 use Rattle.layout.proofs.Facts.{scan_small}
 use Rattle.layout.proofs.has_sample.Goals as goal

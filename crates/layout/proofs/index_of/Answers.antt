@@ -2,7 +2,6 @@
 -- Assumes nothing.
 use Prim.Native.Nat.{◌+◌, ◌*◌, ◌-◌, ◌^◌, ◌<◌}
 use native.Mathlib.Omega.{arith}
-use borrow.Author.Rules.{rules}
 use Rattle.layout.specs.Indexes.{index_of}
 use Rattle.layout.proofs.Inverses.{Small, sample_small}
 use Rattle.layout.proofs.index_of.Goals as goal

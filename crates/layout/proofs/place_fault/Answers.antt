@@ -1,7 +1,6 @@
 -- `layout::place_fault` meets its contract.
 -- Assumes nothing.
-use mathlib.Core.Path.{sym, ◌∙◌}
-use borrow.Author.Rules.{rules}
+use mathlib.Core.Path.{sym}
 use Rattle.basis.specs.Choice.{pick}
 use Rattle.layout.specs.Indexes.{place_fault}
 use Rattle.layout.proofs.place_fault.Goals as goal

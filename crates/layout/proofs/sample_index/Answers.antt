@@ -1,7 +1,6 @@
 -- `layout::sample_index` meets its contract.
 -- Assumes nothing.
-use mathlib.Core.Path.{sym, ◌∙◌}
-use borrow.Author.Rules.{rules}
+use mathlib.Core.Path.{sym}
 use Rattle.layout.specs.Indexes.{index_answer}
 use Rattle.layout.proofs.Inverses.{index_clear}
 use Rattle.layout.proofs.sample_index.Goals as goal

@@ -1,10 +1,7 @@
 -- `layout::sample_place` meets its contract.
 -- Assumes nothing.
-use Prim.Native.Nat.{◌-◌, ◌≤◌, ◌<◌}
-use mathlib.Core.Path.{sym, ◌∙◌}
+use mathlib.Core.Path.{sym}
 use native.Mathlib.Omega.{arith}
-use borrow.Author.Rules.{rules}
-use Rattle.sets.specs.Samples.{samples_of}
 use Rattle.layout.specs.Indexes.{place_answer}
 use Rattle.layout.proofs.Inverses.{place_small}
 use Rattle.layout.proofs.sample_place.Goals as goal

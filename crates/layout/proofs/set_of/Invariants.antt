@@ -1,14 +1,10 @@
 -- `layout::set_of` meets its contract. The loop keeps the end of the last set, and how many sets were passed.
 -- Assumes nothing.
-use Prim.Native.Nat.{◌≤◌, ◌<◌, ◌-◌, ◌+◌, ◌*◌, ◌^◌}
-use mathlib.Core.Path.{◌≡◌, refl}
-use native.Mathlib.Omega.{arith}
-use borrow.Author.Rules.{rules}
-use Rattle.basis.specs.Upto.{upto, sum_upto}
-use Rattle.basis.proofs.Numbers.{product_lt}
+use Prim.Native.Nat.{◌≤◌, ◌-◌, ◌*◌}
+use mathlib.Core.Path.{◌≡◌}
+use Rattle.basis.specs.Upto.{sum_upto}
 use Rattle.sets.specs.Samples.{set_samples}
-use Rattle.layout.specs.Indexes.{set_at, set_of}
-use Rattle.layout.proofs.SetLaws.{sum_more, set_more, set_at_lem}
+use Rattle.layout.specs.Indexes.{set_at}
 use Rattle.layout.proofs.set_of.Given as goal
 
 abbrev pub invariant-loop-s : goal.invariant-loop-s

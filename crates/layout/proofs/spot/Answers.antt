@@ -3,7 +3,6 @@
 use Prim.Native.Nat.{◌-◌, ◌≤◌, ◌<◌}
 use native.Mathlib.Omega.{arith}
 use native.Mathlib.Nat.{mod-lt}
-use borrow.Author.Rules.{rules}
 use Rattle.layout.specs.Indexes.{spot_of}
 use Rattle.layout.proofs.Inverses.{spot_facts}
 use Rattle.layout.proofs.spot.Goals as goal

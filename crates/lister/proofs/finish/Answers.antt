@@ -1,6 +1,5 @@
 -- `lister::finish` meets its contract: the line of the reel's ending.
 -- Assumes nothing.
-use Rattle.std.proofs.Common.{rules}
 use Rattle.lister.proofs.finish.Goals as goal
 
 pub returns : goal.returns

@@ -1,6 +1,6 @@
 -- `lister::hear` meets its contract: one case for each thing met.
 -- Assumes nothing.
-use Rattle.std.proofs.Common.{refl, rules}
+use Rattle.std.proofs.Common.{refl}
 use Rattle.listing.proofs.Lent.{none}
 use Rattle.lister.proofs.Said.{silent}
 use Rattle.lister.proofs.hear.Goals as goal

@@ -3,7 +3,6 @@
 use Rattle.listing.proofs.Lent.{none}
 use Rattle.files.specs.declared.File.TheVariants.{Empty}
 use Rattle.lister.proofs.Said.{silent}
-use Rattle.std.proofs.Common.{rules}
 use Rattle.lister.proofs.mark.Goals as goal
 
 pub returns-in-Nothing : goal.returns-in-Nothing

@@ -1,6 +1,6 @@
 -- `lister::portion` meets its contract: all of the portion where there is room, else nothing.
 -- Assumes nothing.
-use Rattle.std.proofs.Common.{sym, refl, ◌∙◌, rules}
+use Rattle.std.proofs.Common.{sym, refl, ◌∙◌}
 use Rattle.basis.specs.Choice.{pick}
 use Rattle.lister.specs.Calls.{called}
 use Rattle.lister.proofs.portion.Goals as goal

@@ -1,12 +1,8 @@
 -- `lister::walk` meets its contract: what is left of the portion leads to its end.
 -- Assumes nothing.
-use Rattle.std.proofs.Common.{◌≡◌, ◌-◌, ◌<◌, ◌≤◌, [], length, refl, ap, arith, rules}
-use native.Mathlib.Nat.{sub-zero}
-use Rattle.framing.proofs.Forward.{forward}
-use Rattle.lister.specs.declared.Turn.{Turn}
+use Rattle.std.proofs.Common.{◌≡◌, ◌-◌, ◌≤◌, length}
 use Rattle.lister.specs.Turn.{walked}
-use Rattle.lister.proofs.Room.{roomy_is, none_yet}
-use Rattle.lister.proofs.Walking.{Here, on, ended}
+use Rattle.lister.proofs.Walking.{Here}
 use Rattle.lister.proofs.walk.Given as goal
 
 abbrev pub invariant-loop-at : goal.invariant-loop-at

@@ -3,7 +3,6 @@
 use native.Mathlib.Nat.{mod-lt}
 use native.Mathlib.Omega.{arith}
 use Rattle.basis.proofs.Rules.{tests}
-use borrow.Author.Rules.{rules}
 use Rattle.listing.proofs.last_digit.Goals as goal
 
 pub returns-then-d-lt10 : goal.returns-then-d-lt10

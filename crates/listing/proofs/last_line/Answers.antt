@@ -1,15 +1,11 @@
 -- `listing::last_line` meets its contract: a line for each ending.
 -- Assumes nothing.
-use Prim.Native.Nat.{◌≤◌}
 use mathlib.Core.Path.{refl, sym, ap, ◌∙◌}
 use native.Mathlib.Omega.{arith}
 use borrow.Author.Tests.{ltb-false}
-use lib.ListN.{length}
 use Rattle.basis.specs.Choice.{pick}
 use Rattle.listing.specs.Lines.{last_of}
-use Rattle.listing.specs.Lent.{line_room}
 use Rattle.listing.proofs.Lent.{ended}
-use borrow.Author.Rules.{rules}
 use Rattle.listing.proofs.last_line.Goals as goal
 
 pub returns-then-no_room : goal.returns-then-no_room

@@ -1,11 +1,10 @@
 -- `listing::no_room` meets its contract: there are fewer bytes from the place on.
 -- Assumes nothing.
 use Prim.Native.Nat.{◌+◌}
-use mathlib.Core.Path.{◌≡◌, sym}
+use mathlib.Core.Path.{sym}
 use native.Mathlib.Omega.{arith}
 use borrow.Author.Tests.{lt-ltb, le-ltb}
 use lib.ListN.{length}
-use borrow.Author.Rules.{rules}
 use Rattle.listing.specs.Lent.{line_room}
 use Rattle.listing.proofs.no_room.Goals as goal
 

@@ -1,10 +1,9 @@
 -- `listing::put` meets its contract: the bytes before i stand in the buffer.
 -- Assumes nothing.
 use borrow.Author.Rules.{rules}
-use Prim.Native.Nat.{◌≤◌, ◌-◌}
 use mathlib.Core.Path.{◌≡◌, refl, ap, ◌∙◌}
 use native.Mathlib.Omega.{arith}
-use lib.ListN.{length, take, length-set}
+use lib.ListN.{length, length-set}
 use lib.Seq.{sets, take_all}
 use Rattle.listing.proofs.Pieces.{put_more}
 use Rattle.listing.proofs.put.Goals as goal

@@ -4,7 +4,6 @@ use Prim.Native.Nat.{◌≤◌}
 use mathlib.Core.Path.{◌∙◌}
 use native.Mathlib.Omega.{arith}
 use Rattle.listing.proofs.Decimal.{at_most_20, decimal_is}
-use borrow.Author.Rules.{rules}
 use Rattle.listing.proofs.put_decimal.Goals as goal
 
 pub put-requires : goal.put-requires

@@ -1,14 +1,10 @@
 -- `listing::record_line` meets its contract: a line for each outcome.
 -- Assumes nothing.
-use Prim.Native.Nat.{◌+◌, ◌≤◌}
 use mathlib.Core.Path.{refl, sym, ap, ◌∙◌}
 use Rattle.basis.specs.Choice.{pick}
 use borrow.Author.Tests.{ltb-false}
-use lib.ListN.{length}
 use Rattle.listing.specs.Lines.{line_of}
-use Rattle.listing.specs.Lent.{line_room}
 use Rattle.listing.proofs.Lent.{ended}
-use borrow.Author.Rules.{rules}
 use Rattle.listing.proofs.record_line.Goals as goal
 
 pub returns-then-no_room : goal.returns-then-no_room

@@ -1,8 +1,7 @@
 -- `parts::constants` meets its contract.
 -- Assumes nothing.
-use mathlib.Core.Path.{sym, ◌∙◌}
+use mathlib.Core.Path.{sym}
 use native.Mathlib.Omega.{arith}
-use borrow.Author.Rules.{rules}
 use Rattle.parts.specs.Parts.{constants_part}
 use Rattle.parts.proofs.Fits.{block_long}
 use Rattle.parts.proofs.constants.Goals as goal

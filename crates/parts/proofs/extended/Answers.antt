@@ -1,7 +1,6 @@
 -- `parts::extended` meets its contract.
 -- Assumes nothing.
-use mathlib.Core.Path.{sym, ◌∙◌}
-use borrow.Author.Rules.{rules}
+use mathlib.Core.Path.{sym}
 use Rattle.parts.specs.Parts.{extended_part}
 use Rattle.parts.proofs.Fits.{extended_fits}
 use Rattle.parts.proofs.extended.Goals as goal

@@ -1,7 +1,6 @@
 -- `parts::extended_place` meets its contract.
 -- Assumes nothing.
 use native.Mathlib.Omega.{arith}
-use borrow.Author.Rules.{rules}
 use Rattle.sets.specs.Descriptors.{descriptor_place}
 use Rattle.parts.specs.Parts.{extended_place}
 use Rattle.parts.proofs.extended_place.Goals as goal

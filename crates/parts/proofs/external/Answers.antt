@@ -1,7 +1,6 @@
 -- `parts::external` meets its contract.
 -- Assumes nothing.
-use mathlib.Core.Path.{sym, ◌∙◌}
-use borrow.Author.Rules.{rules}
+use mathlib.Core.Path.{sym}
 use Rattle.parts.specs.Parts.{external_place, external_part}
 use Rattle.parts.proofs.Fits.{external_fits}
 use Rattle.parts.proofs.external.Goals as goal

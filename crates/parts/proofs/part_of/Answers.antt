@@ -1,7 +1,6 @@
 -- `parts::part_of` meets its contract.
 -- Assumes nothing.
 use native.Mathlib.Nat.{add-sub_cancel_left}
-use borrow.Author.Rules.{rules}
 use Rattle.parts.specs.Slices.{part}
 use Rattle.parts.proofs.part_of.Goals as goal
 

@@ -2,7 +2,6 @@
 -- Assumes nothing.
 use mathlib.Core.Path.{sym, ◌∙◌}
 use Rattle.runs.proofs.Bytes.{written_two}
-use borrow.Author.Rules.{rules}
 use Rattle.runs.proofs.big2.Goals as goal
 
 pub returns : goal.returns

@@ -2,7 +2,6 @@
 -- Assumes nothing.
 use mathlib.Core.Path.{sym, ◌∙◌}
 use Rattle.runs.proofs.Bytes.{written_four}
-use borrow.Author.Rules.{rules}
 use Rattle.runs.proofs.big4.Goals as goal
 
 pub returns : goal.returns

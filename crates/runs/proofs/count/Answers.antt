@@ -4,7 +4,6 @@ use Rattle.basis.specs.Choice.{pick}
 use Rattle.basis.proofs.Rules.{tests}
 use native.Mathlib.Nat.{add-zero}
 use Rattle.words.specs.Words.{off_one}
-use borrow.Author.Rules.{rules}
 use Rattle.runs.proofs.count.Goals as goal
 
 pub returns-then-w : goal.returns-then-w

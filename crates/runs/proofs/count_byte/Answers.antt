@@ -5,7 +5,6 @@ use native.Mathlib.Nat.{add-zero}
 use Rattle.basis.specs.Choice.{pick}
 use Rattle.basis.proofs.Rules.{tests}
 use Rattle.words.specs.Words.{off_one}
-use borrow.Author.Rules.{rules}
 use Rattle.runs.proofs.count_byte.Goals as goal
 
 pub returns-then-off : goal.returns-then-off

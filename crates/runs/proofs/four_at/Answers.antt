@@ -3,7 +3,6 @@
 use mathlib.Core.Path.{sym, ◌∙◌}
 use native.Mathlib.Omega.{arith}
 use Rattle.runs.proofs.Bytes.{four_there, four_cut}
-use borrow.Author.Rules.{rules}
 use Rattle.runs.proofs.four_at.Goals as goal
 
 pub returns-then-bytes-lt4 : goal.returns-then-bytes-lt4

@@ -2,7 +2,6 @@
 -- Assumes nothing.
 use Rattle.basis.specs.Fields.{field}
 use Rattle.runs.specs.Words.{exponent_of, group_exponent}
-use borrow.Author.Rules.{rules}
 use Rattle.runs.proofs.group_exponent.Goals as goal
 
 pub returns : goal.returns

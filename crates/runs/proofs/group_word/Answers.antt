@@ -1,7 +1,6 @@
 -- `runs::group_word` meets its contract.
 -- Assumes nothing.
 use Rattle.runs.specs.Words.{group_word}
-use borrow.Author.Rules.{rules}
 use Rattle.runs.proofs.group_word.Goals as goal
 
 pub returns : goal.returns

@@ -2,7 +2,6 @@
 -- Assumes nothing.
 use native.Mathlib.Omega.{arith}
 use Rattle.runs.specs.Words.{grouped_in}
-use borrow.Author.Rules.{rules}
 use Rattle.runs.proofs.grouped_in.Goals as goal
 
 pub returns-then-rest-lt2 : goal.returns-then-rest-lt2

@@ -1,12 +1,10 @@
 -- `runs::groups15` meets its contract: its loop keeps that the first k words are written.
 -- Assumes nothing.
-use Prim.Native.Nat.{◌-◌}
 use mathlib.Core.Path.{◌∙◌}
 use native.Mathlib.Omega.{arith}
 use borrow.Author.Rules.{rules}
-use lib.ListN.{length}
 use Rattle.runs.specs.Words.{grouped_in, grouped_value}
-use Rattle.runs.proofs.Done.{Done, done_from, done_self, done_more, done_on, loop_ends}
+use Rattle.runs.proofs.Done.{done_from, done_self, done_more, done_on, loop_ends}
 use Rattle.runs.proofs.groups15.Goals as goal
 
 pub grouped_in-requires : goal.grouped_in-requires

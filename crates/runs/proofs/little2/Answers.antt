@@ -3,7 +3,6 @@
 use Prim.Native.Nat.{◌+◌}
 use native.Mathlib.Omega.{arith}
 use Rattle.runs.proofs.Bytes.{little_two}
-use borrow.Author.Rules.{rules}
 use Rattle.runs.proofs.little2.Goals as goal
 
 pub overflow_cast-result : goal.overflow_cast-result

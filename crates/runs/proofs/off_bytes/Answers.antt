@@ -1,8 +1,8 @@
 -- `runs::off_bytes` meets its contract: its loop keeps that the first k bytes are counted.
 -- Assumes nothing.
-use Prim.Native.Nat.{◌-◌, zero-le}
+use Prim.Native.Nat.{zero-le}
 use native.Mathlib.Omega.{arith}
-use Rattle.runs.proofs.Apart.{Counted, counted_none, counted_on, counted_all}
+use Rattle.runs.proofs.Apart.{counted_none, counted_on, counted_all}
 use Rattle.runs.proofs.off_bytes.Goals as goal
 
 pub loop-k-init : goal.loop-k-init

@@ -1,8 +1,7 @@
 -- `runs::off_bytes` meets its contract: its loop keeps that the first k bytes are counted.
 -- Assumes nothing.
-use Prim.Native.Nat.{◌-◌, zero-le}
-use native.Mathlib.Omega.{arith}
-use Rattle.runs.proofs.Apart.{Counted, counted_none, counted_on, counted_all}
+use Prim.Native.Nat.{◌-◌}
+use Rattle.runs.proofs.Apart.{Counted}
 use Rattle.runs.proofs.off_bytes.Given as goal
 
 abbrev pub invariant-loop-k : goal.invariant-loop-k

@@ -1,8 +1,7 @@
 -- `runs::off_few` meets its contract: its loop keeps that the bytes before i are counted.
 -- Assumes nothing.
 use Prim.Native.Nat.{◌-◌}
-use native.Mathlib.Omega.{arith}
-use Rattle.runs.proofs.Apart.{Counted, counted_none, counted_more, counted_end}
+use Rattle.runs.proofs.Apart.{Counted}
 use Rattle.runs.proofs.off_few.Given as goal
 
 abbrev pub invariant-loop-i : goal.invariant-loop-i

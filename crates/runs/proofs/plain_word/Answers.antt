@@ -9,7 +9,6 @@ use Rattle.basis.specs.Choice.{pick}
 use Rattle.basis.proofs.Choices.{pick_both}
 use Rattle.codes.specs.Codes.{row_of, find_in, table, word_bytes_in, word_bytes_of}
 use Rattle.runs.specs.Words.{plain_code, plain_bytes, plain_value}
-use borrow.Author.Rules.{rules}
 use Rattle.runs.proofs.plain_word.Goals as goal
 
 -- the bytes of a word, by the first test

@@ -1,7 +1,6 @@
 -- `runs::plain_words` meets its contract: its loop keeps that the first k words are written.
 -- Assumes nothing.
-use Prim.Native.Nat.{ℕ, ◌+◌, ◌-◌, ◌*◌, ◌≤◌, ◌<◌}
-use mathlib.Core.Path.{◌≡◌}
+use Prim.Native.Nat.{ℕ, ◌+◌, ◌≤◌, ◌<◌}
 use native.Mathlib.Nat.{le-div_iff_mul-le}
 use native.Mathlib.Omega.{arith}
 use lib.Dec.{eqb, lit<}
@@ -10,7 +9,7 @@ use Rattle.basis.proofs.Choices.{pick_both}
 use Rattle.codes.specs.Codes.{row_of, find_in, table, word_bytes_in, word_bytes_of}
 use Rattle.basis.specs.Choice.{pick}
 use Rattle.runs.specs.Words.{words_in, plain_code, plain_bytes, plain_value}
-use Rattle.runs.proofs.Done.{Done, done_none, done_more, loop_ends}
+use Rattle.runs.proofs.Done.{done_none, done_more, loop_ends}
 use Rattle.runs.proofs.plain_words.Goals as goal
 
 -- a word has bytes

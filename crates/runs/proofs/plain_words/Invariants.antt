@@ -1,16 +1,9 @@
 -- `runs::plain_words` meets its contract: its loop keeps that the first k words are written.
 -- Assumes nothing.
-use Prim.Native.Nat.{ℕ, ◌+◌, ◌-◌, ◌*◌, ◌≤◌, ◌<◌}
-use mathlib.Core.Path.{◌≡◌}
-use native.Mathlib.Nat.{le-div_iff_mul-le}
-use native.Mathlib.Omega.{arith}
-use lib.Dec.{eqb, lit<}
+use Prim.Native.Nat.{◌-◌}
 use lib.ListN.{length}
-use Rattle.basis.proofs.Choices.{pick_both}
-use Rattle.codes.specs.Codes.{row_of, find_in, table, word_bytes_in, word_bytes_of}
-use Rattle.basis.specs.Choice.{pick}
-use Rattle.runs.specs.Words.{words_in, plain_code, plain_bytes, plain_value}
-use Rattle.runs.proofs.Done.{Done, done_none, done_more, loop_ends}
+use Rattle.runs.specs.Words.{words_in, plain_code, plain_value}
+use Rattle.runs.proofs.Done.{Done}
 use Rattle.runs.proofs.plain_words.Given as goal
 
 abbrev pub invariant-loop-k : goal.invariant-loop-k

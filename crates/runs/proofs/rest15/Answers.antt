@@ -1,12 +1,11 @@
 -- `runs::rest15` meets its contract: its loop keeps that the first k words are written.
 -- Assumes nothing.
-use Prim.Native.Nat.{◌+◌, ◌-◌, ◌%◌}
+use Prim.Native.Nat.{◌+◌, ◌%◌}
 use mathlib.Core.Path.{◌≡◌, ◌∙◌}
 use native.Mathlib.Omega.{arith}
-use lib.ListN.{length}
 use Rattle.basis.specs.Fields.{field}
 use Rattle.runs.specs.Words.{words_in, exponent_of, rest_value}
-use Rattle.runs.proofs.Done.{Done, done_none, done_more, loop_ends}
+use Rattle.runs.proofs.Done.{done_none, done_more, loop_ends}
 use Rattle.runs.proofs.rest15.Goals as goal
 
 pub least-n-requires : goal.least-n-requires

@@ -1,12 +1,9 @@
 -- `runs::rest15` meets its contract: its loop keeps that the first k words are written.
 -- Assumes nothing.
-use Prim.Native.Nat.{◌+◌, ◌-◌, ◌%◌}
-use mathlib.Core.Path.{◌≡◌, ◌∙◌}
-use native.Mathlib.Omega.{arith}
+use Prim.Native.Nat.{◌-◌}
 use lib.ListN.{length}
-use Rattle.basis.specs.Fields.{field}
-use Rattle.runs.specs.Words.{words_in, exponent_of, rest_value}
-use Rattle.runs.proofs.Done.{Done, done_none, done_more, loop_ends}
+use Rattle.runs.specs.Words.{words_in, rest_value}
+use Rattle.runs.proofs.Done.{Done}
 use Rattle.runs.proofs.rest15.Given as goal
 
 abbrev pub invariant-loop-k : goal.invariant-loop-k

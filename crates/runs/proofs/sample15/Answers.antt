@@ -3,7 +3,6 @@
 use mathlib.Core.Path.{◌∙◌}
 use native.Mathlib.Nat.{zero-add}
 use Rattle.runs.proofs.Grouped.{group_value}
-use borrow.Author.Rules.{rules}
 use Rattle.runs.proofs.sample15.Goals as goal
 
 pub returns : goal.returns

@@ -1,14 +1,13 @@
 -- `runs::whole_groups` meets its contract: its loop keeps that the words of the first g groups are written.
 -- Assumes nothing.
-use Prim.Native.Nat.{ℕ, ◌-◌, ◌*◌, ◌/◌, ◌≤◌}
+use Prim.Native.Nat.{ℕ, ◌*◌, ◌/◌, ◌≤◌}
 use mathlib.Core.Path.{◌≡◌}
 use mathlib.Core.List.{List}
 use native.Mathlib.Omega.{arith}
 use lib.IntN.{ℤ}
-use lib.ListN.{length}
 use Rattle.words.specs.declared.Value.{Value}
 use Rattle.runs.specs.Runs.{offs, numbers, over}
-use Rattle.runs.specs.Words.{grouped_in, grouped_value}
+use Rattle.runs.specs.Words.{grouped_in}
 use Rattle.runs.proofs.Done.{Done, done_none, counted_low, done_four, done_far}
 use Rattle.runs.proofs.whole_groups.Goals as goal
 
@@ -61,7 +60,7 @@ pub loop-g-smaller : goal.loop-g-smaller
 loop-g-smaller c = omega arith
 
 pub loop-g-preserved : goal.loop-g-preserved
-loop-g-preserved c = done_four c.loop-g.invariant c.loop-g-test.true 
+loop-g-preserved c = done_four c.loop-g.invariant c.loop-g-test.true
     (c.sample15-a.ensures.value, c.sample15-a.ensures.out_after) (c.sample15-b.ensures.value, c.sample15-b.ensures.out_after) (c.sample15-c.ensures.value, c.sample15-c.ensures.out_after) (c.sample15-d.ensures.value, c.sample15-d.ensures.out_after)
 
 pub shape_of-out : goal.shape_of-out

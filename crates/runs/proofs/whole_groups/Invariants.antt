@@ -1,15 +1,9 @@
 -- `runs::whole_groups` meets its contract: its loop keeps that the words of the first g groups are written.
 -- Assumes nothing.
-use Prim.Native.Nat.{ℕ, ◌-◌, ◌*◌, ◌/◌, ◌≤◌}
-use mathlib.Core.Path.{◌≡◌}
-use mathlib.Core.List.{List}
-use native.Mathlib.Omega.{arith}
-use lib.IntN.{ℤ}
+use Prim.Native.Nat.{◌-◌, ◌*◌, ◌/◌}
 use lib.ListN.{length}
-use Rattle.words.specs.declared.Value.{Value}
-use Rattle.runs.specs.Runs.{offs, numbers, over}
 use Rattle.runs.specs.Words.{grouped_in, grouped_value}
-use Rattle.runs.proofs.Done.{Done, done_none, counted_low, done_four, done_far}
+use Rattle.runs.proofs.Done.{Done}
 use Rattle.runs.proofs.whole_groups.Given as goal
 
 abbrev pub invariant-loop-g : goal.invariant-loop-g

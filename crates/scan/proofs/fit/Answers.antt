@@ -1,7 +1,6 @@
 -- `scan::fit` meets its contract: the groups are the code's.
 -- Assumes nothing.
 use Rattle.scan.specs.Fit.{fitb}
-use borrow.Author.Rules.{rules}
 use Rattle.scan.proofs.fit.Goals as goal
 
 pub returns : goal.returns

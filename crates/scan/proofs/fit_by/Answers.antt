@@ -1,7 +1,6 @@
 -- `scan::fit_by` meets its contract: its four tests are the definition's.
 -- Assumes nothing.
 use Rattle.scan.specs.Fit.{fit_by}
-use borrow.Author.Rules.{rules}
 use Rattle.scan.proofs.fit_by.Goals as goal
 
 pub returns : goal.returns

@@ -4,7 +4,6 @@ use mathlib.Core.Path.{sym, ◌∙◌}
 use Rattle.scan.specs.Fit.{shape_by}
 use Rattle.basis.specs.Choice.{◌and◌}
 use Rattle.basis.proofs.Rules.{tests}
-use borrow.Author.Rules.{rules}
 use Rattle.scan.proofs.shape_fits.Goals as goal
 
 pub returns-then-h-lt8 : goal.returns-then-h-lt8

@@ -5,7 +5,6 @@ use Rattle.scan.specs.Fit.{wholeb}
 use Rattle.basis.specs.Choice.{◌and◌}
 use Rattle.basis.proofs.Rules.{tests}
 use native.Mathlib.Omega.{arith}
-use borrow.Author.Rules.{rules}
 use Rattle.scan.proofs.whole.Goals as goal
 
 pub returns-then-w-eq0 : goal.returns-then-w-eq0

@@ -1,6 +1,5 @@
 -- `sets::channel_set` meets its contract.
 -- Assumes nothing.
-use borrow.Author.Rules.{rules}
 use Rattle.sets.proofs.channel_set.Goals as goal
 
 pub returns : goal.returns

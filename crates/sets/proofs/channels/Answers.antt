@@ -1,6 +1,5 @@
 -- `sets::channels` meets its contract.
 -- Assumes nothing.
-use borrow.Author.Rules.{rules}
 use Rattle.sets.proofs.channels.Goals as goal
 
 pub returns : goal.returns

@@ -1,7 +1,6 @@
 -- `sets::descriptor_at` meets its contract.
 -- Assumes nothing.
 use native.Mathlib.Omega.{arith}
-use borrow.Author.Rules.{rules}
 use Rattle.sets.specs.Descriptors.{descriptor_at}
 use Rattle.sets.proofs.Parts.{part_rest, part_past}
 use Rattle.sets.proofs.descriptor_at.Goals as goal

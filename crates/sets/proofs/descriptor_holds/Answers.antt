@@ -1,6 +1,5 @@
 -- `sets::descriptor_holds` meets its contract.
 -- Assumes nothing.
-use borrow.Author.Rules.{rules}
 use Rattle.sets.specs.Descriptors.{descriptor_holds}
 use Rattle.sets.proofs.descriptor_holds.Goals as goal
 

@@ -1,14 +1,11 @@
 -- `sets::descriptors_fault` meets its contract.
 -- Assumes nothing.
-use Prim.Native.Nat.{◌≤◌, ◌-◌}
-use mathlib.Core.Path.{◌≡◌, refl, sym, ◌∙◌}
+use mathlib.Core.Path.{◌≡◌, refl, sym}
 use native.Mathlib.Omega.{arith}
 use borrow.Author.Rules.{rules}
 use Rattle.basis.specs.Upto.{upto}
 use Rattle.refusals.proofs.Orders.{first_more, first_found}
-use Rattle.refusals.specs.Order.{first_upto}
-use Rattle.refusals.specs.declared.Fault.TheVariants.{Clear}
-use Rattle.sets.specs.Descriptors.{scan_type_fault, descriptors_fault}
+use Rattle.sets.specs.Descriptors.{descriptors_fault}
 use Rattle.sets.proofs.descriptors_fault.Goals as goal
 
 pub loop-t-init : goal.loop-t-init

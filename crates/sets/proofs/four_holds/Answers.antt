@@ -1,6 +1,5 @@
 -- `sets::four_holds` meets its contract.
 -- Assumes nothing.
-use borrow.Author.Rules.{rules}
 use Rattle.sets.specs.Descriptors.{four_holds}
 use Rattle.sets.proofs.four_holds.Goals as goal
 

@@ -1,6 +1,5 @@
 -- `sets::per` meets its contract.
 -- Assumes nothing.
-use borrow.Author.Rules.{rules}
 use borrow.Author.Tests.{eq-eqb, ne_eqb}
 use Rattle.basis.specs.Choice.{pick}
 use Rattle.codes.specs.Codes.{per_in, per_of}

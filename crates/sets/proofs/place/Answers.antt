@@ -1,7 +1,6 @@
 -- `sets::place` meets its contract.
 -- Assumes nothing.
 use native.Mathlib.Omega.{arith}
-use borrow.Author.Rules.{rules}
 use Rattle.sets.specs.Descriptors.{descriptor_place}
 use Rattle.sets.proofs.place.Goals as goal
 

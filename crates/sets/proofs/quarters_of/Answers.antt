@@ -1,7 +1,6 @@
 -- `sets::quarters_of` meets its contract.
 -- Assumes nothing.
 use mathlib.Core.Path.{◌∙◌}
-use borrow.Author.Rules.{rules}
 use mir.Facts.{to_z-of_z}
 use mir.Syntax.{w32}
 use Rattle.sets.proofs.Signs.{positive, negative}

@@ -1,6 +1,5 @@
 -- `sets::samples` meets its contract.
 -- Assumes nothing.
-use borrow.Author.Rules.{rules}
 use Rattle.sets.specs.Samples.{samples_of}
 use Rattle.sets.proofs.samples.Goals as goal
 

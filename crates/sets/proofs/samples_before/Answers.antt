@@ -1,12 +1,10 @@
 -- `sets::samples_before` meets its contract.
 -- Assumes nothing.
-use Prim.Native.Nat.{◌≤◌, ◌*◌, ◌-◌}
 use mathlib.Core.Path.{◌≡◌, refl}
 use native.Mathlib.Omega.{arith}
 use borrow.Author.Rules.{rules}
 use Rattle.basis.proofs.Uptos.{upto_more}
 use Rattle.basis.specs.Upto.{upto}
-use Rattle.sets.specs.Samples.{samples_before}
 use Rattle.sets.proofs.samples_before.Goals as goal
 
 pub loop-s-init : goal.loop-s-init

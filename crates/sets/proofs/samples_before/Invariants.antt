@@ -1,11 +1,7 @@
 -- `sets::samples_before` meets its contract.
 -- Assumes nothing.
 use Prim.Native.Nat.{◌≤◌, ◌*◌, ◌-◌}
-use mathlib.Core.Path.{◌≡◌, refl}
-use native.Mathlib.Omega.{arith}
-use borrow.Author.Rules.{rules}
-use Rattle.basis.proofs.Uptos.{upto_more}
-use Rattle.basis.specs.Upto.{upto}
+use mathlib.Core.Path.{◌≡◌}
 use Rattle.sets.specs.Samples.{samples_before}
 use Rattle.sets.proofs.samples_before.Given as goal
 

@@ -1,14 +1,10 @@
 -- `sets::scan_type_fault` meets its contract.
 -- Assumes nothing.
 use Prim.Native.Nat.{◌≤◌, ◌-◌}
-use mathlib.Core.Path.{◌≡◌, refl, sym, ◌∙◌}
-use native.Mathlib.Omega.{arith}
-use borrow.Author.Rules.{rules}
-use Rattle.basis.specs.Upto.{upto}
-use Rattle.refusals.proofs.Orders.{first_more, first_found}
+use mathlib.Core.Path.{◌≡◌}
 use Rattle.refusals.specs.Order.{first_upto}
 use Rattle.refusals.specs.declared.Fault.TheVariants.{Clear}
-use Rattle.sets.specs.Descriptors.{set_fault, scan_type_fault}
+use Rattle.sets.specs.Descriptors.{set_fault}
 use Rattle.sets.proofs.scan_type_fault.Given as goal
 
 abbrev pub invariant-loop-s : goal.invariant-loop-s

@@ -1,6 +1,5 @@
 -- `sets::set_fault` meets its contract.
 -- Assumes nothing.
-use borrow.Author.Rules.{rules}
 use Rattle.basis.specs.Choice.{pick}
 use Rattle.sets.specs.Descriptors.{set_fault}
 use Rattle.sets.proofs.set_fault.Goals as goal

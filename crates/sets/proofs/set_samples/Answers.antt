@@ -1,7 +1,6 @@
 -- `sets::set_samples` meets its contract.
 -- Assumes nothing.
 use native.Mathlib.Omega.{arith}
-use borrow.Author.Rules.{rules}
 use Rattle.basis.proofs.Numbers.{product_lt}
 use Rattle.sets.specs.Samples.{set_samples}
 use Rattle.sets.proofs.set_samples.Goals as goal

@@ -1,6 +1,5 @@
 -- `sets::subscans` meets its contract.
 -- Assumes nothing.
-use borrow.Author.Rules.{rules}
 use Rattle.sets.proofs.subscans.Goals as goal
 
 pub returns : goal.returns

@@ -1,6 +1,5 @@
 -- `sets::two_to` meets its contract.
 -- Assumes nothing.
-use borrow.Author.Rules.{rules}
 use Rattle.basis.proofs.Numbers.{shifted}
 use Rattle.sets.proofs.two_to.Goals as goal
 

@@ -1,7 +1,6 @@
 -- `skew::lent` meets its contract.
 -- Assumes nothing.
 use borrow.Author.Tests.{eq-eqb, ne_eqb}
-use borrow.Author.Rules.{rules}
 use Rattle.basis.specs.Choice.{pick}
 use Rattle.skew.specs.Skews.{source}
 use Rattle.skew.proofs.lent.Goals as goal

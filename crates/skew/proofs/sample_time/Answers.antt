@@ -1,11 +1,7 @@
 -- `skew::sample_time` meets its contract.
 -- Assumes nothing.
-use Prim.Native.Nat.{◌^◌, ◌<◌}
-use mathlib.Core.Path.{◌≡◌, sym, ◌∙◌}
-use borrow.Author.Rules.{rules}
-use Rattle.refusals.specs.declared.Fault.TheVariants.{Clear}
+use mathlib.Core.Path.{sym}
 use Rattle.skew.specs.Times.{time_answer}
-use Rattle.skew.specs.Skews.{skew_byte_fault}
 use Rattle.skew.proofs.Fits.{time_clear}
 use Rattle.skew.proofs.sample_time.Goals as goal
 

@@ -1,7 +1,6 @@
 -- `skew::sheet_holds` meets its contract.
 -- Assumes nothing.
 use native.Mathlib.Omega.{arith}
-use borrow.Author.Rules.{rules}
 use Rattle.basis.proofs.Numbers.{product_lt}
 use Rattle.skew.specs.Skews.{sheet_holds}
 use Rattle.skew.proofs.sheet_holds.Goals as goal

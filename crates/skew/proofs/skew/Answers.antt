@@ -1,12 +1,11 @@
 -- `skew::skew` meets its contract.
 -- Assumes nothing.
-use mathlib.Core.Path.{sym, ◌∙◌}
+use mathlib.Core.Path.{sym}
 use native.Mathlib.Nat.{zero-add}
 use native.Mathlib.Omega.{arith}
-use borrow.Author.Rules.{rules}
 use Rattle.parts.specs.Slices.{part}
 use Rattle.skew.specs.Skews.{skew_part}
-use Rattle.skew.proofs.Fits.{Asked, skew_asked, asked_fits}
+use Rattle.skew.proofs.Fits.{skew_asked, asked_fits}
 use Rattle.skew.proofs.skew.Goals as goal
 
 pub overflow_sub-scan_type : goal.overflow_sub-scan_type

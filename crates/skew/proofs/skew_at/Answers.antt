@@ -1,7 +1,6 @@
 -- `skew::skew_at` meets its contract.
 -- Assumes nothing.
-use mathlib.Core.Path.{sym, ◌∙◌}
-use borrow.Author.Rules.{rules}
+use mathlib.Core.Path.{sym}
 use Rattle.skew.specs.Skews.{skew_answer}
 use Rattle.skew.proofs.skew_at.Goals as goal
 

@@ -1,14 +1,12 @@
 -- `skew::skew_byte` meets its contract.
 -- Assumes nothing.
-use Prim.Native.Nat.{◌+◌, ◌-◌, ◌<◌}
+use Prim.Native.Nat.{◌+◌, ◌<◌}
 use native.Mathlib.Omega.{arith}
 use lib.ListN.{length}
 use borrow.Author.Tests.{eq-eqb, ne_eqb}
-use borrow.Author.Rules.{rules}
 use Rattle.basis.specs.Choice.{pick}
-use Rattle.sets.specs.Samples.{samples_of}
 use Rattle.skew.specs.Skews.{source, skew_byte}
-use Rattle.skew.proofs.Fits.{Asked, byte_asked, asked_fits}
+use Rattle.skew.proofs.Fits.{byte_asked, asked_fits}
 use Rattle.skew.proofs.skew_byte.Goals as goal
 
 pub overflow_sub-scan_type : goal.overflow_sub-scan_type

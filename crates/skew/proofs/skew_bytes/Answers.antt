@@ -2,7 +2,6 @@
 -- Assumes nothing.
 use mathlib.Core.Path.{◌∙◌, ap}
 use native.Mathlib.Nat.{add-sub_cancel_left}
-use borrow.Author.Rules.{rules}
 use Rattle.parts.specs.Slices.{Slice, part}
 use Rattle.skew.specs.Skews.{skew_of}
 use Rattle.skew.proofs.Fits.{source_bytes}

@@ -1,6 +1,5 @@
 -- `skew::skew_fault` meets its contract.
 -- Assumes nothing.
-use borrow.Author.Rules.{rules}
 use Rattle.basis.specs.Choice.{pick}
 use Rattle.skew.specs.Skews.{skew_fault}
 use Rattle.skew.proofs.skew_fault.Goals as goal

@@ -1,6 +1,6 @@
 -- `skew::time_by` meets its contract.
 -- Assumes nothing.
-use Prim.Native.Nat.{◌*◌, ◌<◌, ◌^◌}
+use Prim.Native.Nat.{◌^◌}
 use mathlib.Core.Path.{refl}
 use native.Mathlib.Omega.{arith}
 use borrow.Author.Rules.{rules}

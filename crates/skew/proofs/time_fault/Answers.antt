@@ -1,7 +1,6 @@
 -- `skew::time_fault` meets its contract.
 -- Assumes nothing.
 use borrow.Author.Tests.{le-ltb, lt-ltb}
-use borrow.Author.Rules.{rules}
 use Rattle.basis.specs.Choice.{pick}
 use Rattle.skew.specs.Times.{time_fault}
 use Rattle.skew.proofs.time_fault.Goals as goal

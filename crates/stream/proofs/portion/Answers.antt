@@ -2,7 +2,7 @@
 -- Assumes nothing.
 use Rattle.runs.specs.Runs.{over}
 use Rattle.scan.proofs.Shapes.{fit_of}
-use Rattle.std.proofs.Common.{◌≡◌, ℕ, Bool, sym, ap, ◌∙◌, rules}
+use Rattle.std.proofs.Common.{◌≡◌, ℕ, Bool, sym, ap, ◌∙◌}
 use Rattle.codes.specs.Codes.{group_of}
 use Rattle.scan.specs.declared.State.{State}
 use Rattle.scan.specs.Fit.{fitb, fit_by}

@@ -3,7 +3,6 @@
 use borrow.Author.Tests.{eq-eqb, ne_eqb}
 use Rattle.basis.specs.Choice.{pick}
 use Rattle.trace.specs.Answers.{answered}
-use borrow.Author.Rules.{rules}
 use Rattle.trace.proofs.answered.Goals as goal
 
 pub returns-then-s-eq0 : goal.returns-then-s-eq0

@@ -1,7 +1,6 @@
 -- `trace::fits` meets its contract.
 -- Assumes nothing.
 use Rattle.trace.specs.Fit.{fit_by}
-use borrow.Author.Rules.{rules}
 use Rattle.trace.proofs.fits.Goals as goal
 
 pub returns : goal.returns

@@ -3,11 +3,6 @@
 use borrow.Author.Tests.{eq-eqb, ne_eqb}
 use Rattle.basis.specs.Choice.{pick}
 use Rattle.trace.specs.Answers.{stop_of}
-use borrow.Author.Rules.{rules}
-use Rattle.trace.proofs.stop_of.Reads as reads
-use Rattle.trace.proofs.stop_of.Lts as lts
-use Rattle.refusals.proofs.stop_refusal.Reads as stop-refusal-reads
-use Rattle.turns.proofs.turn_at.Reads as turn-at-reads
 use Rattle.trace.proofs.stop_of.Goals as goal
 
 pub returns-then-s-eq8 : goal.returns-then-s-eq8

@@ -4,7 +4,6 @@ use Rattle.trace.proofs.Facts.{fit_of, counted_fit}
 use Rattle.basis.specs.Choice.{pick}
 use Rattle.trace_body.specs.Calls.{block_end}
 use mathlib.Core.Path.{sym, ◌∙◌}
-use borrow.Author.Rules.{rules}
 use Rattle.trace_body.proofs.block_end.Goals as goal
 
 pub end_gave-requires : goal.end_gave-requires

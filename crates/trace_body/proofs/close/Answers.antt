@@ -3,8 +3,7 @@
 use Rattle.trace.proofs.Facts.{counted_fit}
 use Rattle.basis.specs.Choice.{pick}
 use Rattle.trace_body.specs.Calls.{close}
-use mathlib.Core.Path.{sym, ◌∙◌}
-use borrow.Author.Rules.{rules}
+use mathlib.Core.Path.{sym}
 use Rattle.trace_body.proofs.close.Goals as goal
 
 pub finish-requires : goal.finish-requires

@@ -4,7 +4,6 @@ use Rattle.trace.specs.Step.{look_by}
 use Rattle.trace.proofs.Facts.{group_some, counted_look}
 use Rattle.trace_body.specs.Ends.{end_on}
 use Rattle.trace_body.specs.Calls.{end_gave}
-use borrow.Author.Rules.{rules}
 use Rattle.trace_body.proofs.end_gave.Goals as goal
 
 pub ended-t-requires : goal.ended-t-requires

@@ -3,7 +3,6 @@
 use borrow.Author.Tests.{le-leb, lt-leb}
 use Rattle.basis.specs.Choice.{pick}
 use Rattle.trace_body.specs.Open.{opened}
-use borrow.Author.Rules.{rules}
 use Rattle.trace_body.proofs.open.Goals as goal
 
 pub returns-in-At : goal.returns-in-At

@@ -5,7 +5,6 @@ use Rattle.runs.specs.Runs.{over}
 use Rattle.basis.specs.Choice.{pick}
 use mathlib.Core.Path.{sym, ◌∙◌}
 use Rattle.trace_stream.specs.Calls.{portion, portion_wrote}
-use borrow.Author.Rules.{rules}
 use Rattle.trace_stream.proofs.portion.Goals as goal
 
 pub fit_portion-requires : goal.fit_portion-requires

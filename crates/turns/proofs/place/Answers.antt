@@ -3,7 +3,6 @@
 use borrow.Author.Tests.{le-leb, lt-leb, le-ltb, lt-ltb}
 use Rattle.basis.specs.Choice.{pick, ◌and◌}
 use Rattle.turns.specs.Places.{has_trace, trace_fault, placed_at}
-use borrow.Author.Rules.{rules}
 use Rattle.turns.proofs.place.Goals as goal
 
 pub returns-in-At : goal.returns-in-At

@@ -1,7 +1,6 @@
 -- `turns::sample_of` meets its contract.
 -- Assumes nothing.
 use Rattle.turns.specs.Places.{sample_of}
-use borrow.Author.Rules.{rules}
 use Rattle.turns.proofs.sample_of.Goals as goal
 
 pub returns : goal.returns

@@ -2,9 +2,8 @@
 -- Assumes nothing.
 use Rattle.turns.proofs.Holders.{found, passed_all}
 use native.Mathlib.Omega.{arith}
-use Prim.Native.Nat.{◌≤◌, ◌-◌}
-use mathlib.Core.Path.{◌≡◌, refl}
-use Rattle.basis.specs.Upto.{upto, sum_upto}
+use mathlib.Core.Path.{refl}
+use Rattle.basis.specs.Upto.{upto}
 use Rattle.basis.proofs.Uptos.{upto_more}
 use Rattle.sets.specs.Samples.{channels_of}
 use Rattle.turns.specs.Turns.{set_in}

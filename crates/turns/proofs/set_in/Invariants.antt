@@ -1,14 +1,9 @@
 -- `turns::set_in` meets its contract.
 -- Assumes nothing.
-use Rattle.turns.proofs.Holders.{found, passed_all}
-use native.Mathlib.Omega.{arith}
 use Prim.Native.Nat.{◌≤◌, ◌-◌}
-use mathlib.Core.Path.{◌≡◌, refl}
-use Rattle.basis.specs.Upto.{upto, sum_upto}
-use Rattle.basis.proofs.Uptos.{upto_more}
+use mathlib.Core.Path.{◌≡◌}
+use Rattle.basis.specs.Upto.{sum_upto}
 use Rattle.sets.specs.Samples.{channels_of}
-use Rattle.turns.specs.Turns.{set_in}
-use borrow.Author.Rules.{rules}
 use Rattle.turns.proofs.set_in.Given as goal
 
 abbrev pub invariant-loop-s : goal.invariant-loop-s

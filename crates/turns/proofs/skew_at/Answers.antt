@@ -6,10 +6,6 @@ use native.Mathlib.Omega.{arith}
 use lib.ListN.{length, get_or, get_or-eq_default}
 use borrow.Author.Tests.{eq-eqb, ne_eqb}
 use Rattle.turns.proofs.Holders.{recorded, unrecorded, placed}
-use borrow.Author.Rules.{rules}
-use Rattle.block.proofs.pair_at.Reads as pair-at-reads
-use Rattle.general.proofs.fields_before.Reads as fields-before-reads
-use Rattle.sets.proofs.samples_before.Reads as samples-before-reads
 use Rattle.turns.proofs.skew_at.Goals as goal
 
 pub returns-then-pair_at-eq0 : goal.returns-then-pair_at-eq0

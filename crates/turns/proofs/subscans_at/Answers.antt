@@ -2,7 +2,6 @@
 -- Assumes nothing.
 use lib.Pow.{pow_pos}
 use Rattle.turns.specs.Turns.{subscans_at}
-use borrow.Author.Rules.{rules}
 use Rattle.turns.proofs.subscans_at.Goals as goal
 
 pub returns : goal.returns

@@ -1,10 +1,9 @@
 -- `turns::trace_count` meets its contract.
 -- Assumes nothing.
-use Prim.Native.Nat.{◌≤◌, ◌*◌, ◌-◌}
 use mathlib.Core.Path.{◌≡◌, refl}
-use Rattle.basis.specs.Upto.{upto, sum_upto}
+use Rattle.basis.specs.Upto.{upto}
 use Rattle.basis.proofs.Uptos.{upto_more}
-use Rattle.turns.specs.Turns.{traces_of, trace_count}
+use Rattle.turns.specs.Turns.{trace_count}
 use borrow.Author.Rules.{rules}
 use native.Mathlib.Omega.{arith}
 use Rattle.turns.proofs.trace_count.Goals as goal

@@ -1,12 +1,9 @@
 -- `turns::trace_count` meets its contract.
 -- Assumes nothing.
 use Prim.Native.Nat.{◌≤◌, ◌*◌, ◌-◌}
-use mathlib.Core.Path.{◌≡◌, refl}
-use Rattle.basis.specs.Upto.{upto, sum_upto}
-use Rattle.basis.proofs.Uptos.{upto_more}
-use Rattle.turns.specs.Turns.{traces_of, trace_count}
-use borrow.Author.Rules.{rules}
-use native.Mathlib.Omega.{arith}
+use mathlib.Core.Path.{◌≡◌}
+use Rattle.basis.specs.Upto.{sum_upto}
+use Rattle.turns.specs.Turns.{traces_of}
 use Rattle.turns.proofs.trace_count.Given as goal
 
 abbrev pub invariant-loop-t : goal.invariant-loop-t

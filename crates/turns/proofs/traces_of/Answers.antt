@@ -1,10 +1,8 @@
 -- `turns::traces_of` meets its contract.
 -- Assumes nothing.
-use Prim.Native.Nat.{◌≤◌, ◌*◌, ◌-◌}
 use mathlib.Core.Path.{◌≡◌, refl}
-use Rattle.basis.specs.Upto.{upto, sum_upto}
+use Rattle.basis.specs.Upto.{upto}
 use Rattle.basis.proofs.Uptos.{upto_more}
-use Rattle.sets.specs.Samples.{channels_of}
 use Rattle.turns.specs.Turns.{traces_of}
 use borrow.Author.Rules.{rules}
 use native.Mathlib.Omega.{arith}

@@ -1,13 +1,9 @@
 -- `turns::traces_of` meets its contract.
 -- Assumes nothing.
 use Prim.Native.Nat.{◌≤◌, ◌*◌, ◌-◌}
-use mathlib.Core.Path.{◌≡◌, refl}
-use Rattle.basis.specs.Upto.{upto, sum_upto}
-use Rattle.basis.proofs.Uptos.{upto_more}
+use mathlib.Core.Path.{◌≡◌}
+use Rattle.basis.specs.Upto.{sum_upto}
 use Rattle.sets.specs.Samples.{channels_of}
-use Rattle.turns.specs.Turns.{traces_of}
-use borrow.Author.Rules.{rules}
-use native.Mathlib.Omega.{arith}
 use Rattle.turns.proofs.traces_of.Given as goal
 
 abbrev pub invariant-loop-s : goal.invariant-loop-s

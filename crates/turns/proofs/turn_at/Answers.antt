@@ -2,7 +2,6 @@
 -- Assumes nothing.
 use Rattle.turns.specs.Turns.{turn_at}
 use native.Mathlib.Omega.{arith}
-use borrow.Author.Rules.{rules}
 use Rattle.turns.proofs.turn_at.Goals as goal
 
 pub overflow_sub-i : goal.overflow_sub-i

@@ -3,7 +3,6 @@
 use mathlib.Core.Path.{refl}
 use Rattle.turns.specs.Turns.{turn_in}
 use native.Mathlib.Omega.{arith}
-use borrow.Author.Rules.{rules}
 use Rattle.turns.proofs.turn_in.Goals as goal
 
 pub overflow_sub-result : goal.overflow_sub-result

@@ -1,8 +1,7 @@
 -- `turns::type_at` meets its contract.
 -- Assumes nothing.
-use Prim.Native.Nat.{◌≤◌, ◌-◌}
-use mathlib.Core.Path.{◌≡◌, refl}
-use Rattle.basis.specs.Upto.{upto, sum_upto}
+use mathlib.Core.Path.{refl}
+use Rattle.basis.specs.Upto.{upto}
 use Rattle.basis.proofs.Uptos.{upto_more}
 use Rattle.turns.specs.Turns.{traces_of, type_at}
 use Rattle.turns.proofs.Holders.{found, passed_all}

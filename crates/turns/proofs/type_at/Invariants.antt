@@ -1,13 +1,9 @@
 -- `turns::type_at` meets its contract.
 -- Assumes nothing.
 use Prim.Native.Nat.{◌≤◌, ◌-◌}
-use mathlib.Core.Path.{◌≡◌, refl}
-use Rattle.basis.specs.Upto.{upto, sum_upto}
-use Rattle.basis.proofs.Uptos.{upto_more}
-use Rattle.turns.specs.Turns.{traces_of, type_at}
-use Rattle.turns.proofs.Holders.{found, passed_all}
-use borrow.Author.Rules.{rules}
-use native.Mathlib.Omega.{arith}
+use mathlib.Core.Path.{◌≡◌}
+use Rattle.basis.specs.Upto.{sum_upto}
+use Rattle.turns.specs.Turns.{traces_of}
 use Rattle.turns.proofs.type_at.Given as goal
 
 abbrev pub invariant-loop-t : goal.invariant-loop-t

@@ -5,7 +5,6 @@ use native.Mathlib.Omega.{arith}
 use lib.Pow.{pow_mono, le_ones}
 use Rattle.words.specs.Words.{all_ones}
 use Rattle.words.proofs.Joins.{all_greatest}
-use borrow.Author.Rules.{rules}
 use Rattle.words.proofs.all_ones.Goals as goal
 
 room : (n : ℕ) → n < 31 → 2 ^ n ≤ 2 ^ 30

@@ -3,7 +3,6 @@
 use Prim.Native.Nat.{◌/◌, ◌^◌}
 use lib.Bits.{and_mask}
 use Rattle.basis.specs.Fields.{field}
-use borrow.Author.Rules.{rules}
 use Rattle.words.proofs.bits.Goals as goal
 
 pub returns : goal.returns

@@ -5,7 +5,6 @@ use lib.Pow.{pow_pos}
 use Rattle.codes.proofs.Rows.{fit}
 use Rattle.words.specs.Words.{sample_in, valued}
 use Rattle.words.proofs.Parts.{value_of_lem}
-use borrow.Author.Rules.{rules}
 use Rattle.words.proofs.by_row.Goals as goal
 
 pub sample-requires : goal.sample-requires

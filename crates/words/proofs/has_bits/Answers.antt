@@ -3,7 +3,6 @@
 use Prim.Native.Nat.{◌<◌, ◌^◌}
 use mathlib.Core.Path.{sym}
 use borrow.Author.Tests.{lt-ltb}
-use borrow.Author.Rules.{rules}
 use Rattle.words.proofs.has_bits.Goals as goal
 
 pub returns-then-w-eq32 : goal.returns-then-w-eq32

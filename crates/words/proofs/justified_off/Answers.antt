@@ -1,6 +1,5 @@
 -- `words::justified_off` meets its contract.
 -- Assumes nothing.
-use borrow.Author.Rules.{rules}
 use Rattle.words.proofs.justified_off.Goals as goal
 
 pub returns : goal.returns

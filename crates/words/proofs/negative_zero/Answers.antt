@@ -4,7 +4,6 @@ use native.Mathlib.Omega.{arith}
 use Rattle.basis.proofs.Numbers.{below_pow}
 use Rattle.words.specs.Words.{negative_zero}
 use Rattle.words.proofs.Joins.{both_ones}
-use borrow.Author.Rules.{rules}
 use Rattle.words.proofs.negative_zero.Goals as goal
 
 pub overflow_add-result : goal.overflow_add-result

@@ -5,7 +5,6 @@ use mathlib.Core.Path.{sym, ◌∙◌}
 use Rattle.basis.specs.Choice.{pick}
 use borrow.Author.Tests.{ltb-true}
 use Rattle.words.specs.Words.{word_in, sample_in}
-use borrow.Author.Rules.{rules}
 use Rattle.words.proofs.of_row.Goals as goal
 
 pub sample-requires : goal.sample-requires

@@ -10,7 +10,6 @@ use lib.Pow.{pow_pos, shr_lt}
 use borrow.Author.Tests.{lt-ltb, eq-eqb, ne_eqb, ltb-true, ltb-false}
 use Rattle.basis.specs.Fields.{field}
 use Rattle.words.specs.Words.{last_bit, not_true_zero, not_justified, off_rule}
-use borrow.Author.Rules.{rules}
 use Rattle.words.proofs.off_rule.Goals as goal
 
 units : (b : Bool) → (b && true) ≡ (b || false)

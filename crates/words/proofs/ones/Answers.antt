@@ -1,7 +1,6 @@
 -- `words::ones` meets its contract.
 -- Assumes nothing.
 use lib.Pow.{pow_pos}
-use borrow.Author.Rules.{rules}
 use Rattle.words.proofs.ones.Goals as goal
 
 pub overflow_sub-result : goal.overflow_sub-result

@@ -2,7 +2,6 @@
 -- Assumes nothing.
 use Rattle.words.specs.Words.{value_of}
 use Rattle.basis.proofs.Rules.{tests}
-use borrow.Author.Rules.{rules}
 use Rattle.words.proofs.read.Goals as goal
 
 pub returns : goal.returns

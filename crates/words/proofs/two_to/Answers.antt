@@ -1,7 +1,6 @@
 -- `words::two_to` meets its contract.
 -- Assumes nothing.
 use Rattle.basis.proofs.Numbers.{shifted}
-use borrow.Author.Rules.{rules}
 use Rattle.words.proofs.two_to.Goals as goal
 
 pub returns : goal.returns

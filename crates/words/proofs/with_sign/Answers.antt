@@ -7,7 +7,6 @@ use mir.Facts.{to_z_pos}
 use borrow.Author.Tests.{eq-eqb, ne_eqb}
 use Rattle.basis.specs.Choice.{pick}
 use Rattle.basis.proofs.Numbers.{minus_fits, minus_is, zero_minus}
-use borrow.Author.Rules.{rules}
 use Rattle.words.proofs.with_sign.Goals as goal
 
 pub overflow_sub-result : goal.overflow_sub-result

@@ -1,7 +1,6 @@
 -- `body::begin::shape_of` meets its contract.
 -- Assumes nothing.
 use Rattle.body.specs.Open.{shape_of}
-use borrow.Author.Rules.{rules}
 use Rattle.body.proofs.begin.shape_of.Goals as goal
 
 pub returns : goal.returns

@@ -2,7 +2,6 @@
 -- Assumes nothing.
 use lib.Pow.{pow-lt}
 use native.Mathlib.Omega.{arith}
-use borrow.Author.Rules.{rules}
 use Rattle.body.proofs.begin.two_to.Goals as goal
 
 pub returns : goal.returns

@@ -1,7 +1,6 @@
 -- `body::begin::unfit` meets its contract.
 -- Assumes nothing.
 use Rattle.body.specs.Open.{unfit}
-use borrow.Author.Rules.{rules}
 use Rattle.body.proofs.begin.unfit.Goals as goal
 
 pub returns : goal.returns

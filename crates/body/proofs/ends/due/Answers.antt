@@ -7,7 +7,6 @@ use Prim.Native.Nat.{◌+◌, ◌/◌}
 use native.Mathlib.Omega.{arith}
 use borrow.Author.Tests.{eq-eqb, ne_eqb}
 use native.Mathlib.Nat.{div-le_self}
-use borrow.Author.Rules.{rules}
 use Rattle.body.proofs.ends.due.Goals as goal
 
 pub returns-then-part-ne0 : goal.returns-then-part-ne0

@@ -9,7 +9,6 @@ use Rattle.stream.specs.Calls.{answered}
 use Rattle.basis.specs.Choice.{pick}
 use Rattle.basis.proofs.Rules.{tests}
 use native.Mathlib.Omega.{arith}
-use borrow.Author.Rules.{rules}
 use Rattle.body.proofs.ends.end.Goals as goal
 
 pub returns-then-s-ne0 : goal.returns-then-s-ne0

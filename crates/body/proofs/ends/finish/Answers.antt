@@ -5,7 +5,6 @@ use Rattle.basis.specs.Choice.{pick}
 use Rattle.basis.proofs.Rules.{tests}
 use Rattle.scan.proofs.Shapes.{shape_parts}
 use Rattle.body.specs.Ends.{finish}
-use borrow.Author.Rules.{rules}
 use Rattle.body.proofs.ends.finish.Goals as goal
 
 pub returns-then-s-ne0 : goal.returns-then-s-ne0

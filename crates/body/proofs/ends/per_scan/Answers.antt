@@ -5,7 +5,6 @@ use mathlib.Core.Path.{sym, ◌∙◌}
 use native.Mathlib.Nat.{mul-one}
 use Rattle.stream.proofs.Readers.{per_four, per_one}
 use native.Mathlib.Omega.{arith}
-use borrow.Author.Rules.{rules}
 use Rattle.body.proofs.ends.per_scan.Goals as goal
 
 pub nonzero_div-result-else-w-eq10 : goal.nonzero_div-result-else-w-eq10

@@ -1,7 +1,6 @@
 -- `body::ends::product` meets its contract.
 -- Assumes nothing.
 use Rattle.basis.proofs.Numbers.{product_lt}
-use borrow.Author.Rules.{rules}
 use Rattle.body.proofs.ends.product.Goals as goal
 
 pub overflow_mul-result : goal.overflow_mul-result

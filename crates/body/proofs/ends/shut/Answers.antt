@@ -3,7 +3,6 @@
 use Rattle.body.specs.Ends.{shut}
 use Rattle.basis.specs.Choice.{pick, ◌and◌, ◌or◌}
 use Rattle.basis.proofs.Rules.{tests}
-use borrow.Author.Rules.{rules}
 use Rattle.body.proofs.ends.shut.Goals as goal
 
 pub returns-then-scans-eq0 : goal.returns-then-scans-eq0

@@ -1,7 +1,6 @@
 -- `body::ends::tally` meets its contract.
 -- Assumes nothing.
 use Rattle.body.specs.Ends.{tally}
-use borrow.Author.Rules.{rules}
 use Rattle.body.proofs.ends.tally.Goals as goal
 
 pub returns : goal.returns

@@ -1,6 +1,5 @@
 -- `deck::bodies::answer_fault` meets its contract.
 -- Assumes nothing.
-use borrow.Author.Rules.{rules}
 use Rattle.deck.proofs.bodies.answer_fault.Goals as goal
 
 pub returns-in-Stopped : goal.returns-in-Stopped

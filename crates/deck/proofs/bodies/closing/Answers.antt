@@ -1,6 +1,5 @@
 -- `deck::bodies::closing` meets its contract.
 -- Assumes nothing.
-use borrow.Author.Rules.{rules}
 use Rattle.deck.proofs.bodies.closing.Goals as goal
 
 pub returns : goal.returns

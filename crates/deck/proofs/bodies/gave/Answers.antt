@@ -1,6 +1,5 @@
 -- `deck::bodies::gave` meets its contract.
 -- Assumes nothing.
-use borrow.Author.Rules.{rules}
 use Rattle.deck.proofs.bodies.gave.Goals as goal
 
 pub returns : goal.returns

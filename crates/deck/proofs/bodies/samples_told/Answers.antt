@@ -1,6 +1,5 @@
 -- `deck::bodies::samples_told` meets its contract.
 -- Assumes nothing.
-use borrow.Author.Rules.{rules}
 use Rattle.deck.proofs.bodies.samples_told.Goals as goal
 
 pub returns-in-Stopped : goal.returns-in-Stopped

@@ -1,6 +1,5 @@
 -- `deck::bodies::segd_block_end` meets its contract.
 -- Assumes nothing.
-use borrow.Author.Rules.{rules}
 use Rattle.deck.proofs.bodies.segd_block_end.Goals as goal
 
 pub returns : goal.returns

@@ -1,6 +1,5 @@
 -- `deck::bodies::segd_close` meets its contract.
 -- Assumes nothing.
-use borrow.Author.Rules.{rules}
 use Rattle.deck.proofs.bodies.segd_close.Goals as goal
 
 pub returns : goal.returns

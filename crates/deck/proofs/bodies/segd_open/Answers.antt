@@ -1,6 +1,5 @@
 -- `deck::bodies::segd_open` meets its contract.
 -- Assumes nothing.
-use borrow.Author.Rules.{rules}
 use Rattle.deck.proofs.bodies.segd_open.Goals as goal
 
 pub returns-in-Scans : goal.returns-in-Scans

@@ -1,6 +1,5 @@
 -- `deck::bodies::segd_portion` meets its contract.
 -- Assumes nothing.
-use borrow.Author.Rules.{rules}
 use Rattle.deck.proofs.bodies.segd_portion.Goals as goal
 
 pub returns : goal.returns

@@ -1,6 +1,5 @@
 -- `deck::bodies::why` meets its contract.
 -- Assumes nothing.
-use borrow.Author.Rules.{rules}
 use Rattle.deck.proofs.bodies.why.Goals as goal
 
 pub returns-in-Whole : goal.returns-in-Whole

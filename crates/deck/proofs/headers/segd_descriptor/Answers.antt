@@ -1,6 +1,5 @@
 -- `deck::headers::segd_descriptor` meets its contract.
 -- Assumes nothing.
-use borrow.Author.Rules.{rules}
 use Rattle.deck.proofs.headers.segd_descriptor.Goals as goal
 
 pub returns-in-Set : goal.returns-in-Set

@@ -1,6 +1,5 @@
 -- `deck::headers::segd_packed` meets its contract.
 -- Assumes nothing.
-use borrow.Author.Rules.{rules}
 use Rattle.deck.proofs.headers.segd_packed.Goals as goal
 
 pub returns-in-Digits : goal.returns-in-Digits

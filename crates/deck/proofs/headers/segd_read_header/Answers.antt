@@ -1,6 +1,5 @@
 -- `deck::headers::segd_read_header` meets its contract.
 -- Assumes nothing.
-use borrow.Author.Rules.{rules}
 use Rattle.deck.proofs.headers.segd_read_header.Goals as goal
 
 pub returns-in-Accepted : goal.returns-in-Accepted

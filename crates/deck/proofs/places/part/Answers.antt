@@ -1,6 +1,5 @@
 -- `deck::places::part` meets its contract.
 -- Assumes nothing.
-use borrow.Author.Rules.{rules}
 use Rattle.deck.proofs.places.part.Goals as goal
 
 pub returns-in-Clear : goal.returns-in-Clear

@@ -1,6 +1,5 @@
 -- `deck::places::segd_extended` meets its contract.
 -- Assumes nothing.
-use borrow.Author.Rules.{rules}
 use Rattle.deck.proofs.places.segd_extended.Goals as goal
 
 pub returns : goal.returns

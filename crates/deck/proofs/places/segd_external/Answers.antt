@@ -1,7 +1,6 @@
 -- `deck::places::segd_external` meets its contract.
 -- Assumes nothing.
 use Rattle.parts.specs.Parts.{external_place}
-use borrow.Author.Rules.{rules}
 use Rattle.deck.proofs.places.segd_external.Goals as goal
 
 pub returns : goal.returns

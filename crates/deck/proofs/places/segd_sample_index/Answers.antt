@@ -1,6 +1,5 @@
 -- `deck::places::segd_sample_index` meets its contract.
 -- Assumes nothing.
-use borrow.Author.Rules.{rules}
 use Rattle.deck.proofs.places.segd_sample_index.Goals as goal
 
 pub returns-in-Sample : goal.returns-in-Sample

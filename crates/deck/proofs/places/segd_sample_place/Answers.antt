@@ -1,6 +1,5 @@
 -- `deck::places::segd_sample_place` meets its contract.
 -- Assumes nothing.
-use borrow.Author.Rules.{rules}
 use Rattle.deck.proofs.places.segd_sample_place.Goals as goal
 
 pub returns-in-Sits : goal.returns-in-Sits

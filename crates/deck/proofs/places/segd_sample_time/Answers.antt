@@ -1,6 +1,5 @@
 -- `deck::places::segd_sample_time` meets its contract.
 -- Assumes nothing.
-use borrow.Author.Rules.{rules}
 use Rattle.deck.proofs.places.segd_sample_time.Goals as goal
 
 pub returns-in-Time : goal.returns-in-Time

@@ -2,8 +2,7 @@
 -- Assumes nothing.
 use Rattle.skew.proofs.Fits.{skew_asked}
 use native.Mathlib.Omega.{arith}
-use mathlib.Core.Path.{sym, ◌∙◌}
-use borrow.Author.Rules.{rules}
+use mathlib.Core.Path.{sym}
 use Rattle.deck.proofs.places.segd_skew.Goals as goal
 
 pub overflow_sub-t : goal.overflow_sub-t

@@ -1,6 +1,5 @@
 -- `deck::places::segd_skew_at` meets its contract.
 -- Assumes nothing.
-use borrow.Author.Rules.{rules}
 use Rattle.deck.proofs.places.segd_skew_at.Goals as goal
 
 pub returns-in-Skew : goal.returns-in-Skew

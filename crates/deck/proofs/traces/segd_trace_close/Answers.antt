@@ -1,6 +1,5 @@
 -- `deck::traces::segd_trace_close` meets its contract.
 -- Assumes nothing.
-use borrow.Author.Rules.{rules}
 use Rattle.deck.proofs.traces.segd_trace_close.Goals as goal
 
 pub returns : goal.returns

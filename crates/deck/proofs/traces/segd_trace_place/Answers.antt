@@ -1,6 +1,5 @@
 -- `deck::traces::segd_trace_place` meets its contract.
 -- Assumes nothing.
-use borrow.Author.Rules.{rules}
 use Rattle.deck.proofs.traces.segd_trace_place.Goals as goal
 
 pub returns-in-Of : goal.returns-in-Of

@@ -1,6 +1,5 @@
 -- `deck::traces::segd_trace_portion` meets its contract.
 -- Assumes nothing.
-use borrow.Author.Rules.{rules}
 use Rattle.deck.proofs.traces.segd_trace_portion.Goals as goal
 
 pub returns : goal.returns

@@ -1,6 +1,5 @@
 -- `deck::traces::trace_gave` meets its contract.
 -- Assumes nothing.
-use borrow.Author.Rules.{rules}
 use Rattle.deck.proofs.traces.trace_gave.Goals as goal
 
 pub returns : goal.returns

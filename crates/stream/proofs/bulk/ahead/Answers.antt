@@ -1,6 +1,6 @@
 -- `stream::bulk::ahead` meets its contract.
 -- Assumes nothing.
-use Rattle.std.proofs.Common.{refl, mod-lt, arith, rules}
+use Rattle.std.proofs.Common.{mod-lt, arith}
 use Rattle.stream.proofs.Parts.{none_ahead}
 use Rattle.stream.proofs.Readers.{fit_width, width_some}
 use Rattle.stream.proofs.bulk.ahead.Goals as goal

@@ -2,8 +2,8 @@
 -- Assumes nothing.
 use Rattle.basis.specs.Choice.{pick}
 use Rattle.stream.specs.Bulk.{value_in, words_of}
-use Rattle.stream.proofs.Choose.{group24, group44, group48, group15, width_is, by_table, Narrow, narrow}
-use Rattle.std.proofs.Common.{arith, rules}
+use Rattle.stream.proofs.Choose.{group24, group44, group48, group15, width_is, by_table, narrow}
+use Rattle.std.proofs.Common.{arith}
 use Rattle.stream.proofs.bulk.by_code.Goals as goal
 
 pub returns-then-code-eq36 : goal.returns-then-code-eq36

@@ -1,6 +1,6 @@
 -- `stream::bulk::by_groups` meets its contract.
 -- Assumes nothing.
-use Rattle.std.proofs.Common.{rules, ne_eqb}
+use Rattle.std.proofs.Common.{ne_eqb}
 use Rattle.basis.specs.Choice.{pick}
 use Rattle.stream.specs.Bulk.{value_in, words_of}
 use Rattle.stream.proofs.bulk.by_groups.Goals as goal

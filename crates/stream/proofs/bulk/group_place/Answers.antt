@@ -1,6 +1,6 @@
 -- `stream::bulk::group_place` meets its contract.
 -- Assumes nothing.
-use Rattle.std.proofs.Common.{arith, rules}
+use Rattle.std.proofs.Common.{arith}
 use Rattle.stream.proofs.Readers.{width_one}
 use Rattle.stream.proofs.bulk.group_place.Goals as goal
 

@@ -1,6 +1,6 @@
 -- `stream::bulk::grouped_ahead` meets its contract.
 -- Assumes nothing.
-use Rattle.std.proofs.Common.{refl, arith, rules}
+use Rattle.std.proofs.Common.{refl, arith}
 use Rattle.stream.specs.Bulk.{groups, rest}
 use Rattle.stream.proofs.bulk.grouped_ahead.Goals as goal
 

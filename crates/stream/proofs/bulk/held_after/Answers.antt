@@ -1,6 +1,6 @@
 -- `stream::bulk::held_after` meets its contract.
 -- Assumes nothing.
-use Rattle.std.proofs.Common.{◌≡◌, length, sym, ◌∙◌, arith, rules}
+use Rattle.std.proofs.Common.{◌≡◌, length, sym, ◌∙◌, arith}
 use Rattle.stream.proofs.Held.{held_four}
 use Rattle.stream.proofs.bulk.held_after.Goals as goal
 

@@ -1,6 +1,6 @@
 -- `stream::bulk::last_exponents` meets its contract.
 -- Assumes nothing.
-use Rattle.std.proofs.Common.{◌-◌, ◌*◌, ◌/◌, length, arith, rules, eq-eqb, ne_eqb}
+use Rattle.std.proofs.Common.{◌-◌, ◌*◌, ◌/◌, length, arith, eq-eqb, ne_eqb}
 use Rattle.basis.specs.Choice.{pick}
 use Rattle.stream.specs.Bulk.{last_exponents}
 use Rattle.stream.proofs.Held.{two_shifts}

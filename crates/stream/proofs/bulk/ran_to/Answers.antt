@@ -3,7 +3,6 @@
 use Rattle.scan.specs.Step.{moved_by}
 use Rattle.stream.specs.Bulk.{ran_to}
 use Rattle.stream.proofs.Parts.{spread_even}
-use Rattle.std.proofs.Common.{rules}
 use Rattle.stream.proofs.bulk.ran_to.Goals as goal
 
 pub last_exponents-requires : goal.last_exponents-requires

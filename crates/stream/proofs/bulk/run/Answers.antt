@@ -1,6 +1,6 @@
 -- `stream::bulk::run` meets its contract.
 -- Assumes nothing.
-use Rattle.std.proofs.Common.{length, sym, ◌∙◌, arith, rules}
+use Rattle.std.proofs.Common.{length, sym, ◌∙◌, arith}
 use Rattle.scan.proofs.Shapes.{shape_parts}
 use Rattle.stream.proofs.Parts.{spread_front}
 use Rattle.stream.proofs.Whole.{comes, ran_off, ran_samples, ran_chunk, filled_wrote}

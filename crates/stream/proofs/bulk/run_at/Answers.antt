@@ -1,6 +1,6 @@
 -- `stream::bulk::run_at` meets its contract.
 -- Assumes nothing.
-use Rattle.std.proofs.Common.{◌≡◌, ◌+◌, ◌-◌, arith, length-drop, rules}
+use Rattle.std.proofs.Common.{◌≡◌, ◌+◌, ◌-◌, arith, length-drop}
 use Rattle.stream.specs.Bulk.{chunk_out}
 use Rattle.stream.proofs.Parts.{part_len, rest_all, put_part}
 use Rattle.stream.proofs.bulk.run_at.Goals as goal

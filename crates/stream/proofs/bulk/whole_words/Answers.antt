@@ -1,6 +1,6 @@
 -- `stream::bulk::whole_words` meets its contract.
 -- Assumes nothing.
-use Rattle.std.proofs.Common.{arith, rules}
+use Rattle.std.proofs.Common.{arith}
 use Rattle.stream.proofs.Readers.{width_one}
 use Rattle.stream.proofs.bulk.whole_words.Goals as goal
 

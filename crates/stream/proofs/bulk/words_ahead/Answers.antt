@@ -1,6 +1,6 @@
 -- `stream::bulk::words_ahead` meets its contract.
 -- Assumes nothing.
-use Rattle.std.proofs.Common.{arith, rules}
+use Rattle.std.proofs.Common.{arith}
 use Rattle.stream.specs.Bulk.{alone}
 use Rattle.stream.proofs.bulk.words_ahead.Goals as goal
 

@@ -1,6 +1,6 @@
 -- `stream::byte::count` meets its contract.
 -- Assumes nothing.
-use Rattle.std.proofs.Common.{add-zero, rules}
+use Rattle.std.proofs.Common.{add-zero}
 use Rattle.words.specs.Words.{off_one}
 use Rattle.basis.specs.Choice.{pick}
 use Rattle.basis.proofs.Rules.{tests}

@@ -3,7 +3,6 @@
 use Rattle.scan.specs.Step.{full}
 use Rattle.basis.specs.Choice.{pick}
 use Rattle.basis.proofs.Rules.{tests}
-use Rattle.std.proofs.Common.{rules}
 use Rattle.stream.proofs.byte.full.Goals as goal
 
 pub returns-then-h-eq0 : goal.returns-then-h-eq0

@@ -3,7 +3,6 @@
 use Rattle.basis.specs.Choice.{◌and◌, ◌or◌}
 use Rattle.scan.specs.Step.{instep}
 use Rattle.basis.proofs.Rules.{tests}
-use Rattle.std.proofs.Common.{rules}
 use Rattle.stream.proofs.byte.instep.Goals as goal
 
 pub returns-then-b-ne0 : goal.returns-then-b-ne0

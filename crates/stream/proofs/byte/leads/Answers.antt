@@ -1,6 +1,6 @@
 -- `stream::byte::leads` meets its contract.
 -- Assumes nothing.
-use Rattle.std.proofs.Common.{rules, eq-eqb, ne_eqb}
+use Rattle.std.proofs.Common.{eq-eqb, ne_eqb}
 use Rattle.basis.specs.Choice.{pick}
 use Rattle.stream.specs.Spots.{leads}
 use Rattle.stream.proofs.byte.leads.Goals as goal

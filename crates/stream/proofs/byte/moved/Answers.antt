@@ -2,7 +2,6 @@
 -- Assumes nothing.
 use Rattle.scan.specs.Step.{moved, moved_by}
 use Rattle.basis.proofs.Rules.{tests}
-use Rattle.std.proofs.Common.{rules}
 use Rattle.stream.proofs.byte.moved.Goals as goal
 
 pub returns : goal.returns

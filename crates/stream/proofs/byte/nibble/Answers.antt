@@ -1,7 +1,7 @@
 -- `stream::byte::nibble` meets its contract.
 -- Assumes nothing.
 use Rattle.basis.specs.Fields.{field}
-use Rattle.std.proofs.Common.{refl, rules}
+use Rattle.std.proofs.Common.{refl}
 use Rattle.scan.specs.Step.{nibble}
 use Rattle.stream.proofs.byte.nibble.Goals as goal
 

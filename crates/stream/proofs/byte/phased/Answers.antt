@@ -4,7 +4,6 @@ use Rattle.basis.specs.Fields.{field}
 use Rattle.scan.specs.Step.{phased}
 use Rattle.basis.specs.Choice.{pick}
 use Rattle.basis.proofs.Rules.{tests}
-use Rattle.std.proofs.Common.{rules}
 use Rattle.stream.proofs.byte.phased.Goals as goal
 
 pub returns-then-k-eq0 : goal.returns-then-k-eq0

@@ -2,7 +2,6 @@
 -- Assumes nothing.
 use Rattle.scan.specs.Step.{quiet}
 use Rattle.basis.proofs.Rules.{tests}
-use Rattle.std.proofs.Common.{rules}
 use Rattle.stream.proofs.byte.quiet.Goals as goal
 
 pub returns : goal.returns

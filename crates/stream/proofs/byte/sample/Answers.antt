@@ -1,7 +1,6 @@
 -- `stream::byte::sample` meets its contract.
 -- Assumes nothing.
 use Rattle.scan.specs.Step.{sample}
-use Rattle.std.proofs.Common.{rules}
 use Rattle.stream.proofs.byte.sample.Goals as goal
 
 pub returns : goal.returns

@@ -3,7 +3,6 @@
 use Rattle.scan.specs.Step.{sync}
 use Rattle.basis.specs.Choice.{pick}
 use Rattle.basis.proofs.Rules.{tests}
-use Rattle.std.proofs.Common.{rules}
 use Rattle.stream.proofs.byte.sync.Goals as goal
 
 pub returns-then-b-eq255 : goal.returns-then-b-eq255

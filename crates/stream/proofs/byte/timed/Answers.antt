@@ -4,7 +4,6 @@ use Rattle.basis.specs.Fields.{field}
 use Rattle.scan.specs.Step.{timed, opens}
 use Rattle.basis.specs.Choice.{pick, ◌and◌}
 use Rattle.basis.proofs.Rules.{tests}
-use Rattle.std.proofs.Common.{rules}
 use Rattle.stream.proofs.byte.timed.Goals as goal
 
 pub returns-then-k-ne0 : goal.returns-then-k-ne0

@@ -1,6 +1,6 @@
 -- `stream::byte::word` meets its contract.
 -- Assumes nothing.
-use Rattle.std.proofs.Common.{sym, ◌∙◌, rules}
+use Rattle.std.proofs.Common.{sym, ◌∙◌}
 use Rattle.stream.proofs.Spots.{word_gives, word_leads, word_none, word_bytes_low}
 use Rattle.stream.proofs.byte.word.Goals as goal
 

@@ -3,7 +3,6 @@
 use Rattle.basis.specs.Choice.{pick}
 use Rattle.basis.proofs.Rules.{tests}
 use Rattle.stream.specs.Calls.{answered}
-use Rattle.std.proofs.Common.{rules}
 use Rattle.stream.proofs.feed.answered.Goals as goal
 
 pub returns-then-s-eq0 : goal.returns-then-s-eq0

@@ -1,6 +1,6 @@
 -- `stream::feed::by_table` meets its contract.
 -- Assumes nothing.
-use Rattle.std.proofs.Common.{◌≡◌, ℕ, List, [], ◌∷◌, sym, ap, ◌∙◌, rules}
+use Rattle.std.proofs.Common.{◌≡◌, ℕ, List, [], ◌∷◌, sym, ap, ◌∙◌}
 use Rattle.scan.proofs.Shapes.{shape_parts}
 use Rattle.words.specs.Tables.{table_of}
 use Rattle.stream.proofs.Choose.{wide}

@@ -1,7 +1,7 @@
 -- `stream::feed::fit_portion` meets its contract.
 -- Assumes nothing.
 use Rattle.runs.specs.Runs.{over}
-use Rattle.std.proofs.Common.{arith, rules}
+use Rattle.std.proofs.Common.{arith}
 use Rattle.stream.specs.Calls.{fit_portion, fit_wrote, unchanged}
 use Rattle.stream.proofs.Cuts.{room_short, room_enough}
 use Rattle.basis.specs.Choice.{pick}

@@ -1,6 +1,6 @@
 -- `stream::start::ahead_at` meets its contract.
 -- Assumes nothing.
-use Rattle.std.proofs.Common.{refl, arith, rules}
+use Rattle.std.proofs.Common.{refl, arith}
 use Rattle.stream.proofs.start.ahead_at.Goals as goal
 
 pub returns-then-starts : goal.returns-then-starts

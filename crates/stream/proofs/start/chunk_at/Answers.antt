@@ -1,6 +1,6 @@
 -- `stream::start::chunk_at` meets its contract.
 -- Assumes nothing.
-use Rattle.std.proofs.Common.{arith, rules}
+use Rattle.std.proofs.Common.{arith}
 use Rattle.stream.proofs.Starts.{start_chunk, start_out}
 use Rattle.stream.proofs.start.chunk_at.Goals as goal
 

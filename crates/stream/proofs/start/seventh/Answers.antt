@@ -1,6 +1,6 @@
 -- `stream::start::seventh` meets its contract.
 -- Assumes nothing.
-use Rattle.std.proofs.Common.{◌+◌, arith, rules}
+use Rattle.std.proofs.Common.{◌+◌, arith}
 use Rattle.runs.proofs.Bytes.{four_there}
 use Rattle.scan.specs.Step.{moved_by}
 use Rattle.stream.specs.Starts.{seventh}

@@ -1,6 +1,6 @@
 -- `stream::start::sound` meets its contract.
 -- Assumes nothing.
-use Rattle.std.proofs.Common.{sym, ◌∙◌, rules}
+use Rattle.std.proofs.Common.{sym, ◌∙◌}
 use Rattle.basis.specs.Choice.{pick}
 use Rattle.stream.specs.Starts.{soundb}
 use Rattle.stream.proofs.start.sound.Goals as goal

@@ -1,6 +1,6 @@
 -- `stream::start::started` meets its contract.
 -- Assumes nothing.
-use Rattle.std.proofs.Common.{sym, ap, arith, rules}
+use Rattle.std.proofs.Common.{sym, ap, arith}
 use Rattle.scan.specs.declared.State.{State}
 use Rattle.scan.specs.Step.{moved_by}
 use Rattle.stream.specs.Starts.{seventh}

@@ -1,6 +1,6 @@
 -- `stream::start::starts` meets its contract.
 -- Assumes nothing.
-use Rattle.std.proofs.Common.{sym, ◌∙◌, arith, rules}
+use Rattle.std.proofs.Common.{sym, ◌∙◌, arith}
 use mathlib.Core.Bool.{false≢true}
 use Rattle.stream.proofs.start.starts.Goals as goal
 

@@ -3,7 +3,6 @@
 use borrow.Author.Tests.{le-leb, lt-leb}
 use Rattle.trace.specs.Fit.{boundsb}
 use Rattle.basis.specs.Choice.{◌and◌}
-use borrow.Author.Rules.{rules}
 use Rattle.trace.proofs.fit.bounds_fit.Goals as goal
 
 pub returns-then-s : goal.returns-then-s

@@ -1,7 +1,6 @@
 -- `trace::own_fits` meets its contract.
 -- Assumes nothing.
 use Rattle.trace.specs.Fit.{own_by}
-use borrow.Author.Rules.{rules}
 use Rattle.trace.proofs.fit.own_fits.Goals as goal
 
 pub returns : goal.returns

@@ -1,10 +1,9 @@
 -- `trace_body::finish` meets its contract.
 -- Assumes nothing.
-use borrow.Author.Tests.{eq-eqb, ne_eqb, lt-ltb, le-ltb, le-leb, lt-leb}
+use borrow.Author.Tests.{eq-eqb, ne_eqb, lt-ltb, le-ltb}
 use Rattle.basis.specs.Choice.{pick}
 use Rattle.trace_body.specs.Calls.{finish}
 use Rattle.trace.proofs.Facts.{group_some}
-use borrow.Author.Rules.{rules}
 use Rattle.trace_body.proofs.closing.finish.Goals as goal
 
 pub returns-then-s-ne0 : goal.returns-then-s-ne0

@@ -1,9 +1,8 @@
 -- `trace_body::part` meets its contract.
 -- Assumes nothing.
-use borrow.Author.Tests.{eq-eqb, ne_eqb, lt-ltb, le-ltb, le-leb, lt-leb}
+use borrow.Author.Tests.{lt-ltb, le-ltb}
 use Rattle.basis.specs.Choice.{pick}
 use Rattle.trace_body.specs.Calls.{partb}
-use borrow.Author.Rules.{rules}
 use Rattle.trace_body.proofs.closing.part.Goals as goal
 
 pub returns-then-n-lt20 : goal.returns-then-n-lt20

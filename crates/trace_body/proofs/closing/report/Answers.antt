@@ -2,7 +2,6 @@
 -- Assumes nothing.
 use mathlib.Core.Path.{refl}
 use Rattle.trace_body.specs.Calls.{report}
-use borrow.Author.Rules.{rules}
 use Rattle.trace_body.proofs.closing.report.Goals as goal
 
 pub returns : goal.returns

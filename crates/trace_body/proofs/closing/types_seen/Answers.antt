@@ -1,9 +1,8 @@
 -- `trace_body::types_seen` meets its contract.
 -- Assumes nothing.
-use borrow.Author.Tests.{eq-eqb, ne_eqb, lt-ltb, le-ltb, le-leb, lt-leb}
+use borrow.Author.Tests.{eq-eqb, ne_eqb}
 use Rattle.basis.specs.Choice.{pick}
 use Rattle.trace_body.specs.Calls.{types_seen}
-use borrow.Author.Rules.{rules}
 use Rattle.trace_body.proofs.closing.types_seen.Goals as goal
 
 pub returns-then-n-eq0 : goal.returns-then-n-eq0

@@ -1,13 +1,11 @@
 -- `trace_body::ended` meets its contract.
 -- Assumes nothing.
 use Rattle.trace_body.proofs.Choices.{ended_tally}
-use borrow.Author.Tests.{eq-eqb, ne_eqb, lt-ltb, le-ltb}
+use borrow.Author.Tests.{eq-eqb, le-ltb}
 use mathlib.Core.Path.{sym, ◌∙◌}
 use Rattle.trace_body.specs.Ends.{ended}
 use Rattle.basis.specs.Choice.{pick}
 use Rattle.basis.proofs.Rules.{tests}
-use native.Mathlib.Omega.{arith}
-use borrow.Author.Rules.{rules}
 use Rattle.trace_body.proofs.ends.ended.Goals as goal
 
 pub returns-then-s-ne0 : goal.returns-then-s-ne0

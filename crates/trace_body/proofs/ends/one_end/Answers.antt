@@ -4,7 +4,6 @@ use Rattle.trace_body.specs.Ends.{one_end}
 use Rattle.basis.specs.Choice.{pick}
 use Rattle.basis.proofs.Rules.{tests}
 use native.Mathlib.Omega.{arith}
-use borrow.Author.Rules.{rules}
 use Rattle.trace_body.proofs.ends.one_end.Goals as goal
 
 pub overflow_add-t-then-first : goal.overflow_add-t-then-first

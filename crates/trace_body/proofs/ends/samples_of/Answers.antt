@@ -1,13 +1,12 @@
 -- `trace_body::samples_of` meets its contract.
 -- Assumes nothing.
-use borrow.Author.Tests.{eq-eqb, ne_eqb}
+use borrow.Author.Tests.{ne_eqb}
 use native.Mathlib.Nat.{div-le_self}
 use Prim.Native.Nat.{◌-◌}
 use Rattle.trace_body.specs.Ends.{samples_of}
 use Rattle.basis.specs.Choice.{pick}
 use Rattle.basis.proofs.Rules.{tests}
 use native.Mathlib.Omega.{arith}
-use borrow.Author.Rules.{rules}
 use Rattle.trace_body.proofs.ends.samples_of.Goals as goal
 
 pub returns-then-w-eq10 : goal.returns-then-w-eq10

@@ -6,9 +6,7 @@ use native.Mathlib.Nat.{div-le_self}
 use Rattle.trace_body.proofs.Choices.{clash, scans_first}
 use Rattle.trace_body.specs.Ends.{scans_by}
 use Rattle.basis.specs.Choice.{pick}
-use Rattle.basis.proofs.Rules.{tests}
 use native.Mathlib.Omega.{arith}
-use borrow.Author.Rules.{rules}
 use Rattle.trace_body.proofs.ends.scans_by.Goals as goal
 
 pub returns-then-k : goal.returns-then-k

@@ -1,11 +1,8 @@
 -- `trace_body::tally` meets its contract.
 -- Assumes nothing.
-use mathlib.Core.Path.{sym, ◌∙◌}
 use Rattle.trace_body.specs.Ends.{tally}
 use Rattle.basis.specs.Choice.{pick}
-use Rattle.basis.proofs.Rules.{tests}
 use native.Mathlib.Omega.{arith}
-use borrow.Author.Rules.{rules}
 use Rattle.trace_body.proofs.ends.tally.Goals as goal
 
 pub one_end-requires : goal.one_end-requires

@@ -3,8 +3,6 @@
 use Rattle.trace_body.specs.Ends.{unevenb}
 use Rattle.basis.specs.Choice.{◌and◌}
 use Rattle.basis.proofs.Rules.{tests}
-use native.Mathlib.Omega.{arith}
-use borrow.Author.Rules.{rules}
 use Rattle.trace_body.proofs.ends.uneven.Goals as goal
 
 pub returns-then-w-eq10 : goal.returns-then-w-eq10

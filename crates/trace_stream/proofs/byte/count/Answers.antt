@@ -4,7 +4,6 @@ use native.Mathlib.Nat.{add-zero}
 use Rattle.words.specs.Words.{off_one}
 use Rattle.basis.specs.Choice.{pick}
 use Rattle.basis.proofs.Rules.{tests}
-use borrow.Author.Rules.{rules}
 use Rattle.trace_stream.proofs.byte.count.Goals as goal
 
 pub returns-then-v : goal.returns-then-v

@@ -3,9 +3,6 @@
 use borrow.Author.Tests.{eq-eqb, ne_eqb}
 use Rattle.basis.specs.Choice.{pick}
 use Rattle.trace.specs.Step.{digits}
-use borrow.Author.Rules.{rules}
-use Rattle.trace_stream.proofs.byte.digits.Reads as reads
-use Rattle.trace_stream.proofs.byte.digits.Lts as lts
 use Rattle.trace_stream.proofs.byte.digits.Goals as goal
 
 pub returns-then-n-eq3 : goal.returns-then-n-eq3

@@ -2,8 +2,6 @@
 -- Assumes nothing.
 use mathlib.Core.Path.{refl}
 use Rattle.trace.specs.Step.{freeb}
-use Rattle.trace_stream.proofs.byte.free.Reads as reads
-use Rattle.trace_stream.proofs.byte.free.Lts as lts
 use Rattle.trace_stream.proofs.byte.free.Goals as goal
 
 pub returns : goal.returns

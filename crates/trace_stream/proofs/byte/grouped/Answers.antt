@@ -4,7 +4,6 @@ use borrow.Author.Tests.{eq-eqb, ne_eqb}
 use Rattle.trace.specs.Step.{grouped}
 use Rattle.basis.specs.Choice.{pick}
 use Rattle.basis.proofs.Rules.{tests}
-use borrow.Author.Rules.{rules}
 use Rattle.trace_stream.proofs.byte.grouped.Goals as goal
 
 pub returns-then-g-eq0 : goal.returns-then-g-eq0

@@ -1,7 +1,6 @@
 -- `trace_stream::halt` meets its contract.
 -- Assumes nothing.
 use Rattle.trace.specs.Step.{halt}
-use borrow.Author.Rules.{rules}
 use Rattle.trace_stream.proofs.byte.halt.Goals as goal
 
 pub returns : goal.returns

@@ -2,7 +2,6 @@
 -- Assumes nothing.
 use Rattle.trace.specs.Step.{moved_by, moved}
 use Rattle.basis.proofs.Rules.{tests}
-use borrow.Author.Rules.{rules}
 use Rattle.trace_stream.proofs.byte.moved.Goals as goal
 
 pub returns : goal.returns

@@ -3,12 +3,6 @@
 use borrow.Author.Tests.{le-leb, lt-leb}
 use Rattle.basis.specs.Choice.{pick}
 use Rattle.trace.specs.Step.{namedb}
-use borrow.Author.Rules.{rules}
-use Rattle.trace_stream.proofs.byte.named.Reads as reads
-use Rattle.trace_stream.proofs.byte.named.Lts as lts
-use Rattle.block.proofs.byte_at.Reads as byte-at-reads
-use Rattle.trace_stream.proofs.byte.digits.Reads as digits-reads
-use Rattle.trace_stream.proofs.byte.writes.Reads as writes_reads
 use Rattle.trace_stream.proofs.byte.named.Goals as goal
 
 pub returns-then-n-le2 : goal.returns-then-n-le2

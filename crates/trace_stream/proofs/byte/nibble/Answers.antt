@@ -3,7 +3,6 @@
 use Rattle.basis.specs.Fields.{field}
 use mathlib.Core.Path.{refl}
 use Rattle.scan.specs.Step.{nibble}
-use borrow.Author.Rules.{rules}
 use Rattle.trace_stream.proofs.byte.nibble.Goals as goal
 
 pub returns : goal.returns

@@ -3,11 +3,6 @@
 use borrow.Author.Tests.{eq-eqb, ne_eqb}
 use Rattle.basis.specs.Choice.{pick, ◌or◌}
 use Rattle.trace.specs.Step.{otherb}
-use borrow.Author.Rules.{rules}
-use Rattle.trace_stream.proofs.byte.other.Reads as reads
-use Rattle.trace_stream.proofs.byte.other.Lts as lts
-use Rattle.trace_stream.proofs.byte.free.Reads as free-reads
-use Rattle.trace_stream.proofs.byte.skewed.Reads as skewed-reads
 use Rattle.trace_stream.proofs.byte.other.Goals as goal
 
 pub returns-then-n-eq11 : goal.returns-then-n-eq11

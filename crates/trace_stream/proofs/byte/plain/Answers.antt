@@ -3,7 +3,6 @@
 use Rattle.trace.specs.Step.{plain}
 use Rattle.basis.specs.Choice.{pick}
 use Rattle.basis.proofs.Rules.{tests}
-use borrow.Author.Rules.{rules}
 use Rattle.trace_stream.proofs.byte.plain.Goals as goal
 
 pub returns-then-q-w-eq0 : goal.returns-then-q-w-eq0

@@ -1,7 +1,6 @@
 -- `trace_stream::quiet` meets its contract.
 -- Assumes nothing.
 use Rattle.trace.specs.Step.{quiet}
-use borrow.Author.Rules.{rules}
 use Rattle.trace_stream.proofs.byte.quiet.Goals as goal
 
 pub returns : goal.returns

@@ -1,7 +1,6 @@
 -- `trace_stream::sample` meets its contract.
 -- Assumes nothing.
 use Rattle.trace.specs.Step.{sample}
-use borrow.Author.Rules.{rules}
 use Rattle.trace_stream.proofs.byte.sample.Goals as goal
 
 pub returns : goal.returns

@@ -2,7 +2,6 @@
 -- Assumes nothing.
 use Rattle.scan.specs.Step.{shift}
 use Rattle.basis.proofs.Rules.{tests}
-use borrow.Author.Rules.{rules}
 use Rattle.trace_stream.proofs.byte.shift.Goals as goal
 
 pub returns : goal.returns

@@ -3,11 +3,6 @@
 use borrow.Author.Tests.{eq-eqb, ne_eqb}
 use Rattle.basis.specs.Choice.{◌or◌}
 use Rattle.trace.specs.Step.{skewb}
-use borrow.Author.Rules.{rules}
-use Rattle.trace_stream.proofs.byte.skewed.Reads as reads
-use Rattle.trace_stream.proofs.byte.skewed.Lts as lts
-use Rattle.block.proofs.pair_at.Reads as pair-at-reads
-use Rattle.turns.proofs.skew_at.Reads as skew-at-reads
 use Rattle.trace_stream.proofs.byte.skewed.Goals as goal
 
 pub returns-then-pair_at-eq0 : goal.returns-then-pair_at-eq0

@@ -3,11 +3,6 @@
 use borrow.Author.Tests.{le-leb, lt-leb}
 use Rattle.basis.specs.Choice.{pick}
 use Rattle.trace.specs.Step.{soundb}
-use borrow.Author.Rules.{rules}
-use Rattle.trace_stream.proofs.byte.sound.Reads as reads
-use Rattle.trace_stream.proofs.byte.sound.Lts as lts
-use Rattle.trace_stream.proofs.byte.named.Reads as named-reads
-use Rattle.trace_stream.proofs.byte.other.Reads as other-reads
 use Rattle.trace_stream.proofs.byte.sound.Goals as goal
 
 pub returns-then-n-le6 : goal.returns-then-n-le6

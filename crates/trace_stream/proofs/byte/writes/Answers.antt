@@ -1,10 +1,6 @@
 -- `trace_stream::writes` meets its contract.
 -- Assumes nothing.
 use Rattle.turns.specs.Turns.{writes}
-use borrow.Author.Rules.{rules}
-use Rattle.trace_stream.proofs.byte.writes.Reads as reads
-use Rattle.trace_stream.proofs.byte.writes.Lts as lts
-use Rattle.block.proofs.packed.Reads as packed-reads
 use Rattle.trace_stream.proofs.byte.writes.Goals as goal
 
 pub returns-in-Digits : goal.returns-in-Digits

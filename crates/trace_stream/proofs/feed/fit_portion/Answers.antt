@@ -8,7 +8,6 @@ use Rattle.stream.proofs.Cuts.{room_short, room_enough}
 use Rattle.trace_stream.specs.Calls.{fit_portion, fit_wrote}
 use Rattle.trace_stream.proofs.Going.{look_some}
 use native.Mathlib.Omega.{arith}
-use borrow.Author.Rules.{rules}
 use Rattle.trace_stream.proofs.feed.fit_portion.Goals as goal
 
 pub returns-then-s-ne0 : goal.returns-then-s-ne0

@@ -11,7 +11,6 @@ use mir.Facts.{to_z_pos, to_z-of_z}
 use borrow.Author.Tests.{lt-ltb, le-ltb}
 use Rattle.basis.specs.Choice.{pick}
 use Rattle.words.specs.Tables.{signed_of}
-use borrow.Author.Rules.{rules}
 use Rattle.words.proofs.tables.signed.Goals as goal
 
 less_one : (k : ℕ) → negsuc 0 -ℤ pos k ≡ negsuc k
