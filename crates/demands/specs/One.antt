@@ -18,8 +18,7 @@ abbrev pub OneContent : {K : Type 0} {Args Answer End : K → Type 0} {Content :
 OneContent {K} {Args} {Answer} {End} post content =
     (κ : K) (a : Args κ) (z z' : Answer κ) (e e' : End κ) → post κ a z e → post κ a z' e' → content κ e ≡ content κ e'
 
--- "handed out as the very part of the caller's block": two parts that lie at one place in memory and have the same bytes (what else the
--- logic knows of a reference, its ghost name, is no part of what a caller has)
+-- "handed out as the very part of the caller's block": two parts that lie at one place in memory and have the same bytes
 abbrev pub same_part : Bor (List ℕ) → Bor (List ℕ) → Type 0
 same_part z z' = (z.ref_ptr ≡ z'.ref_ptr) × (z.now ≡ z'.now)
 
