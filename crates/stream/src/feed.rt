@@ -12,6 +12,7 @@ use crate::start::{ahead_at, chunk_at};
 use crate::{Answer, Gave};
 use refusals::{Refusal, stop_refusal};
 use scan::State;
+use std::slice;
 use words::{Value, tables};
 
 // The answer of a state, after n numbers were written.
@@ -73,7 +74,7 @@ fn feed(s: State, w: u32, tables: &[[u64; 256]], bytes: &[u8], out: &mut [i32]) 
     }
 }
 
-// Where the code's words have one byte, its table is bound here, once for the portion, and lent to the loop; the other codes are lent none. The three calls differ in the tables alone: LLVM then makes one of
+// Where the code's words have one byte, its table is chosen here, once for the portion, and lent to the loop; the other codes are lent none. The three calls differ in the tables alone: LLVM then makes one of
 // them, and compiles the loop into the portion as if it were called from one place, so that the wider codes pay nothing for the tables.
 fn by_table(s: State, w: u32, bytes: &[u8], out: &mut [i32]) -> Gave
     requires fit { (Fit s) × (group_of s.shape.code ≡ w) }
@@ -83,12 +84,10 @@ fn by_table(s: State, w: u32, bytes: &[u8], out: &mut [i32]) -> Gave
 {
     let code = s.shape.code;
     if code == 0x0022 {
-        let tables = [tables::of_22()];
-        return feed(s, w, &tables, bytes, out);
+        return feed(s, w, slice::from_ref(tables::of_22()), bytes, out);
     }
     if code == 0x0042 {
-        let tables = [tables::of_42()];
-        return feed(s, w, &tables, bytes, out);
+        return feed(s, w, slice::from_ref(tables::of_42()), bytes, out);
     }
     let none: [[u64; 256]; 0] = [];
     feed(s, w, &none, bytes, out)
