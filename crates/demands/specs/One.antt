@@ -25,3 +25,7 @@ same_part z z' = (z.ref_ptr ≡ z'.ref_ptr) × (z.now ≡ z'.now)
 -- and one part of what was lent to be read, where any two that meet it are one
 abbrev pub OnePart : {K : Type 0} {Args End : K → Type 0} → Contract Args (λ κ. Bor (List ℕ)) End → Type 0
 OnePart {K} {Args} {End} post = (κ : K) (a : Args κ) (z z' : Bor (List ℕ)) (e e' : End κ) → post κ a z e → post κ a z' e' → same_part z z'
+
+-- and one content of what is lent for good, where any two answers that meet it hold the same (no contract says where a static lies)
+abbrev pub OneLent : {K : Type 0} {Args End : K → Type 0} → Contract Args (λ κ. Bor (List ℕ)) End → Type 0
+OneLent {K} {Args} {End} post = (κ : K) (a : Args κ) (z z' : Bor (List ℕ)) (e e' : End κ) → post κ a z e → post κ a z' e' → z.now ≡ z'.now

@@ -16,6 +16,8 @@ use Rattle.words.proofs.value44.Reads as words-value44
 use Rattle.words.proofs.value48.Reads as words-value48
 use Rattle.words.proofs.tables.of_22.Reads as words-of-22
 use Rattle.words.proofs.tables.of_42.Reads as words-of-42
+use Rattle.words.proofs.tables.lent_22.Reads as words-lent-22
+use Rattle.words.proofs.tables.lent_42.Reads as words-lent-42
 use Rattle.words.proofs.tables.off.Reads as words-off
 use Rattle.words.proofs.tables.value.Reads as words-value
 use Rattle.block.proofs.packed.Reads as block-packed
@@ -114,7 +116,7 @@ use Rattle.deck.proofs.places.segd_external.Reads as deck-segd-external
 use Rattle.deck.proofs.places.segd_skew.Reads as deck-segd-skew
 use Rattle.deck.proofs.places.segd_skew_at.Reads as deck-segd-skew-at
 use Rattle.deck.proofs.places.segd_sample_time.Reads as deck-segd-sample-time
-use Rattle.demands.specs.One.{OneAnswer, OneContent, OnePart}
+use Rattle.demands.specs.One.{OneAnswer, OneContent, OnePart, OneLent}
 
 pub record Unique : Type 0 where
   pub difference : OneAnswer basis-difference.Post
@@ -132,6 +134,8 @@ pub record Unique : Type 0 where
   pub value48 : OneAnswer words-value48.Post
   pub of_22 : OneAnswer words-of-22.Post
   pub of_42 : OneAnswer words-of-42.Post
+  pub lent_22 : OneLent words-lent-22.Post
+  pub lent_42 : OneLent words-lent-42.Post
   pub off : OneAnswer words-off.Post
   pub value : OneAnswer words-value.Post
   pub packed : OneAnswer block-packed.Post

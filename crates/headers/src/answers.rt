@@ -32,7 +32,7 @@ fn answer(rt: &impl Print, name: &[u8], b: &[u8]) -> io::Result<()> {
 // The block that an argument names.
 fn named(rt: &(impl Print + Eprint + Files), name: &[u8]) -> io::Result<()> {
     let mut b = [0u8; 4096];
-    let k = load(rt, name, &mut b)?;
+    let k = load(rt, name, &mut b);
     answer(rt, name, &b[..k])
 }
 

@@ -1,37 +1,38 @@
 // The header blocks and the sheet that the figures are about: files of data/, which `tools/images` writes.
-ghost use Rattle.std.specs.Io.{ReadsAtMost};
+ghost use Rattle.io.specs.Counts.{IsPrefixLen};
 
 use std::fs::File;
 use std::io::Read;
 use std::rt::Files;
-use std::{io, str};
+use std::str;
 
 // Reads a file to the front of `b`, and answers how many bytes it has there; 0 where it cannot be opened.
-pub(crate) fn load(rt: &(impl Files + Eprint), name: &[u8], b: &mut [u8]) -> io::Result<usize>
-    ensures { ReadsAtMost result b.new }
+pub(crate) fn load(rt: &(impl Files + Eprint), name: &[u8], b: &mut [u8]) -> usize
+    ensures { IsPrefixLen result b.new }
 {
     // A name that is no text names no file.
     let path = str::from_utf8(name).unwrap_or("");
     match File::open(rt, path) {
         Ok(mut file) => read_full(&mut file, b),
         Err(e) => {
-            eprintln!(rt; "{path}: {e}")?;
-            Ok(0)
+            // Where that cannot be said either, it goes unsaid.
+            let _said = eprintln!(rt; "{path}: {e}").is_ok();
+            0
         }
     }
 }
 
-// Reads until b is full or the input ends, and answers how many bytes it put at the start of b.
-fn read_full(input: &mut impl Read, b: &mut [u8]) -> io::Result<usize>
-    ensures { ReadsAtMost result b.new }
+// Reads until b is full, the input ends or a read fails, and answers how many bytes it put at the start of b.
+fn read_full(input: &mut impl Read, b: &mut [u8]) -> usize
+    ensures { IsPrefixLen result b.new }
 {
     let mut done = 0;
     while done < b.len() {
-        let n = input.read(&mut b[done..])?;
+        let n = input.read(&mut b[done..]).unwrap_or(0);
         if n == 0 {
             break;
         }
         done += n;
     }
-    Ok(done)
+    done
 }

@@ -122,7 +122,7 @@ fn sheet_of(rt: &impl Print, b: &[u8], sheet: &[u8]) -> io::Result<()> {
 // E6: byte 203 is byte 11 of set 2 of scan type 2, whose upper half is the channel type.
 pub(crate) fn of_e6(rt: &(impl Print + Eprint + Files)) -> io::Result<()> {
     let mut space = [0u8; 4096];
-    let n = load(rt, b"e6", &mut space)?;
+    let n = load(rt, b"e6", &mut space);
     let b: &[u8] = &space[..n];
     described(rt, b, 1, 2)?;
     described(rt, b, 2, 1)?;
@@ -134,7 +134,7 @@ pub(crate) fn of_e6(rt: &(impl Print + Eprint + Files)) -> io::Result<()> {
 // E8: bytes 367 and 415 are the skew of channel 11 of set 2 of scan type 2, in its two subscans. The base scan is 4 ms.
 pub(crate) fn of_e8(rt: &(impl Print + Eprint + Files)) -> io::Result<()> {
     let mut space = [0u8; 4096];
-    let n = load(rt, b"e8", &mut space)?;
+    let n = load(rt, b"e8", &mut space);
     samples_of_e8(rt, &space[..n], &[7; 3])
 }
 
@@ -154,7 +154,7 @@ fn samples_of_e8(rt: &impl Print, b: &[u8], sheet: &[u8]) -> io::Result<()> {
 // 4 channels between two sets of none.
 pub(crate) fn of_dummies(rt: &(impl Print + Eprint + Files)) -> io::Result<()> {
     let mut space = [0u8; 4096];
-    let n = load(rt, b"dummy_sets", &mut space)?;
+    let n = load(rt, b"dummy_sets", &mut space);
     let b: &[u8] = &space[..n];
     placed(rt, b, 1, 0)?;
     placed(rt, b, 1, 3)?;
@@ -164,7 +164,7 @@ pub(crate) fn of_dummies(rt: &(impl Print + Eprint + Files)) -> io::Result<()> {
 // A scan of no samples.
 pub(crate) fn of_none(rt: &(impl Print + Eprint + Files)) -> io::Result<()> {
     let mut space = [0u8; 4096];
-    let n = load(rt, b"no_samples", &mut space)?;
+    let n = load(rt, b"no_samples", &mut space);
     let b: &[u8] = &space[..n];
     placed(rt, b, 1, 0)?;
     sheet_of(rt, b, b"")?;
@@ -174,12 +174,12 @@ pub(crate) fn of_none(rt: &(impl Print + Eprint + Files)) -> io::Result<()> {
 // As many scan types as there can be. The last one's 4 samples have bytes 393 to 396 of the sheet, of which the first is 1.
 pub(crate) fn of_many(rt: &(impl Print + Eprint + Files)) -> io::Result<()> {
     let mut space = [0u8; 4096];
-    let n = load(rt, b"types_99", &mut space)?;
+    let n = load(rt, b"types_99", &mut space);
     let b: &[u8] = &space[..n];
     described(rt, b, 99, 1)?;
     described(rt, b, 100, 1)?;
     let mut sheet = [0u8; 4096];
-    let k = load(rt, b"sheet_99", &mut sheet)?;
+    let k = load(rt, b"sheet_99", &mut sheet);
     by_sheet(rt, b, &sheet[..k], &[1; 395])
 }
 

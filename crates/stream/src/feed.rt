@@ -84,10 +84,10 @@ fn by_table(s: State, w: u32, bytes: &[u8], out: &mut [i32]) -> Gave
 {
     let code = s.shape.code;
     if code == 0x0022 {
-        return feed(s, w, slice::from_ref(tables::of_22()), bytes, out);
+        return feed(s, w, slice::from_ref(tables::lent_22()), bytes, out);
     }
     if code == 0x0042 {
-        return feed(s, w, slice::from_ref(tables::of_42()), bytes, out);
+        return feed(s, w, slice::from_ref(tables::lent_42()), bytes, out);
     }
     let none: [[u64; 256]; 0] = [];
     feed(s, w, &none, bytes, out)

@@ -214,11 +214,11 @@ pub fn read_word(code: u16, c: u32, word: u32) -> Word
 {
     let stem = code % 0x8000;
     if stem == 0x0022 {
-        let table = tables::of_22();
+        let table = tables::lent_22();
         return by_table(table, stem, c, word);
     }
     if stem == 0x0042 {
-        let table = tables::of_42();
+        let table = tables::lent_42();
         return by_table(table, stem, c, word);
     }
     let found = codes::find(code);

@@ -11,7 +11,7 @@ use Rattle.words.proofs.read_word.Goals as goal
 pub by_table-requires : goal.by_table-requires
 by_table-requires c =
     let e = c.if-stem-eq34.true in
-    (c.of_22-table.ensures ∙ ap table_of (sym e), is22 e)
+    (c.lent_22-table.ensures ∙ ap table_of (sym e), is22 e)
 
 pub returns-then-stem-eq34 : goal.returns-then-stem-eq34
 returns-then-stem-eq34 c = c.by_table.ensures ∙ sym (stem_word _ _ _ (search rules) (is22 c.if-stem-eq34.true))
@@ -19,7 +19,7 @@ returns-then-stem-eq34 c = c.by_table.ensures ∙ sym (stem_word _ _ _ (search r
 pub by_table-requires-then-stem-eq66 : goal.by_table-requires-then-stem-eq66
 by_table-requires-then-stem-eq66 c =
     let e = c.if-stem-eq66.true in
-    (c.of_42-table.ensures ∙ ap table_of (sym e), is42 e)
+    (c.lent_42-table.ensures ∙ ap table_of (sym e), is42 e)
 
 pub returns-then-stem-eq66 : goal.returns-then-stem-eq66
 returns-then-stem-eq66 c = c.by_table-then-stem-eq66.ensures ∙ sym (stem_word _ _ _ (search rules) (is42 c.if-stem-eq66.true))

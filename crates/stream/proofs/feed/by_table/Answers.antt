@@ -13,7 +13,7 @@ bound p e = ap (λ (x : List ℕ). x ∷ []) (p ∙ ap table_of (sym e))
 pub feed-requires : goal.feed-requires
 feed-requires c =
     let z = c in
-    (record { fit = (z.requires.fit.0, z.requires.fit.1, λ _. c.from_ref.ensures.value ∙ bound c.of_22.ensures c.if-code-eq34.true); bytes_in_bounds = z.requires.bytes_in_bounds })
+    (record { fit = (z.requires.fit.0, z.requires.fit.1, λ _. c.from_ref.ensures.value ∙ bound c.lent_22.ensures c.if-code-eq34.true); bytes_in_bounds = z.requires.bytes_in_bounds })
 
 pub returns-then-code-eq34 : goal.returns-then-code-eq34
 returns-then-code-eq34 c = c.feed.ensures
@@ -21,7 +21,7 @@ returns-then-code-eq34 c = c.feed.ensures
 pub feed-requires-then-code-eq66 : goal.feed-requires-then-code-eq66
 feed-requires-then-code-eq66 c =
     let z = c in
-    (record { fit = (z.requires.fit.0, z.requires.fit.1, λ _. c.from_ref-then-code-eq66.ensures.value ∙ bound c.of_42.ensures c.if-code-eq66.true); bytes_in_bounds = z.requires.bytes_in_bounds })
+    (record { fit = (z.requires.fit.0, z.requires.fit.1, λ _. c.from_ref-then-code-eq66.ensures.value ∙ bound c.lent_42.ensures c.if-code-eq66.true); bytes_in_bounds = z.requires.bytes_in_bounds })
 
 pub returns-then-code-eq66 : goal.returns-then-code-eq66
 returns-then-code-eq66 c = c.feed-then-code-eq66.ensures
