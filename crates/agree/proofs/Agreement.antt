@@ -1,5 +1,6 @@
 -- Demand 3: from any header block of a multiplexed code that is accepted, and whatever the calls, the reader does what the rules say of the body that the calls spell.
 -- Assumes nothing.
+use Rattle.std.specs.Prelude.{Ok, Result, ⊤, Err}
 use Prim.Native.Nat.{ℕ, zero, suc, ◌-◌, ◌*◌, ◌<◌}
 use mathlib.Core.Path.{◌≡◌, refl, sym, ap, ◌∙◌, subst}
 use mathlib.Core.Bool.{Bool, true, false}
@@ -10,8 +11,6 @@ use lib.IntN.{ℤ}
 use lib.ListN.{length, length-append}
 use Rattle.basis.specs.Choice.{pick}
 use Rattle.basis.specs.Upto.{upto, list_upto}
-use Rattle.refusals.specs.declared.Fault.{Fault}
-use Rattle.refusals.specs.declared.Fault.TheVariants.{Clear}
 use Rattle.block.specs.Bytes.{byte}
 use Rattle.general.specs.General.{code_of, interval_of, scan_types, scans_per_block}
 use Rattle.header.specs.Faults.{header_fault}
@@ -22,8 +21,8 @@ use Rattle.scan.specs.Fit.{fitb}
 use Rattle.stream.specs.declared.Answer.{Answer as Given}
 use Rattle.body.proofs.Opens.{took, opens_scans, opens_traces, open_fit, unfit_not}
 use Rattle.body.specs.declared.Opened.{Opened}
-use Rattle.body.specs.declared.Opening.{Opening}
-use Rattle.body.specs.declared.Opening.TheVariants.{Traces, Refused}
+use Rattle.body.specs.declared.Body as body
+use Rattle.body.specs.declared.Body.TheVariants.{Traces}
 use Rattle.stream.specs.Calls as K
 use Rattle.body.specs.Ends as N
 use Rattle.body.specs.Open as O
@@ -39,6 +38,7 @@ use Rattle.agree.proofs.Whole.{stop_in, AgreesAt, agree_pieces}
 use Rattle.agree.proofs.Bytes.{below, small}
 use Rattle.agree.proofs.Public.{portion_answer, room_answer_lem, end_answer, run_of, read_fits, read_pieces, read_append}
 use Rattle.agree.proofs.Link.{plan_of, scan_same, shape_same}
+use Rattle.refusals.specs.declared.Refusal.{Refusal}
 
 -- ---- of any body
 -- two numbers for each sample
@@ -47,8 +47,8 @@ unfolding upto
 twice f h zero = refl
 twice f h (suc n) = let r = twice f h n in rw (length-append, r, h n) (omega arith)
 
-pub by_stops : {u v u' v' : Fault} {a : Given} (n : ℕ) → u ≡ u' → v ≡ v' → a ≡ answer_from u v n → a ≡ answer_from u' v' n
-by_stops {u} {v} {u'} {v'} {a} n p q e = subst (λ (x : Fault). a ≡ answer_from x v' n) p (subst (λ (y : Fault). a ≡ answer_from u y n) q e)
+pub by_stops : {u v u' v' : Result ⊤ Refusal} {a : Given} (n : ℕ) → u ≡ u' → v ≡ v' → a ≡ answer_from u v n → a ≡ answer_from u' v' n
+by_stops {u} {v} {u'} {v'} {a} n p q e = subst (λ (x : Result ⊤ Refusal). a ≡ answer_from x v' n) p (subst (λ (y : Result ⊤ Refusal). a ≡ answer_from u y n) q e)
 
 pub bytes_more : (cs : List Call) (c : Call) → BytesIn cs → BytesIn (c ∷ []) → BytesIn (cs ++ (c ∷ []))
 bytes_more [] c h l = l
@@ -60,7 +60,7 @@ samples_length : (sh : Shape) (d : Body) → length (numbers_of sh d) ≡ 2 * do
 unfolding numbers_at
 samples_length sh d = twice (numbers_at sh _) (λ i. refl) (done_of sh d)
 
-module _ (b : List ℕ) (bytes : Bytes b) (clear : header_fault b ≡ Clear) (m : code_of b < 0x8000) where
+module _ (b : List ℕ) (bytes : Bytes b) (clear : header_fault b ≡ Ok tt) (m : code_of b < 0x8000) where
   opened_state : (O.opened b).state ≡ O.fresh (head_of (plan_of b))
   unfolding header_answer header_of O.shape_of scans_per_block
   opened_state =
@@ -146,7 +146,7 @@ agreement b bytes h e m cs l =
     }
 
 -- An all-zero state is read by no call.
-unopened : (b : List ℕ) (a : Opening) → O.opened b ≡ record { state = O.unfit; answer = a } → Unopened b a
+unopened : (b : List ℕ) (a : Result body.Body Refusal) → O.opened b ≡ record { state = O.unfit; answer = a } → Unopened b a
 unfolding K.portion K.portion_wrote N.block_end N.close pick
 unopened b a e =
     record {
@@ -160,7 +160,7 @@ unopened b a e =
 -- A header block that is turned away opens nothing, and a demultiplexed one no body of scans.
 pub turned_away : TurnedAway
 unfolding O.opened
-turned_away b r e = unopened b (Refused r) (rw e)
+turned_away b r e = unopened b (Err r) (rw e)
 
 pub no_scans : NoScans
-no_scans b h e m = unopened b Traces (opens_traces b h e m)
+no_scans b h e m = unopened b (Ok Traces) (opens_traces b h e m)

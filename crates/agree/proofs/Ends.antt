@@ -1,5 +1,6 @@
 -- Block ends: where one is due, whether any byte follows the last, and what is known of block and phase from byte to byte and block to block.
 -- Assumes nothing.
+use Rattle.std.specs.Prelude.{Ok}
 use Prim.Native.Nat.{ℕ, zero, suc, ◌+◌, ◌*◌, ◌/◌, ◌%◌, ◌≤◌, ◌<◌}
 use mathlib.Core.Path.{◌≡◌, refl, sym, ap, ◌∙◌, subst⁻¹}
 use mathlib.Core.Bool.{Bool, true, false, not}
@@ -9,7 +10,6 @@ use lib.Dec.{eqb, ltb, leb}
 use borrow.Author.Tests.{eqb-true, eqb-false, ltb-true, ltb-false, leb-false, eq-eqb, ne_eqb, not-false}
 use Rattle.basis.specs.Choice.{pick, ◌and◌, ◌or◌}
 use Rattle.refusals.specs.declared.Refusal.TheVariants.{Long, Block, Sync, Phase}
-use Rattle.refusals.specs.declared.Fault.TheVariants.{Clear}
 use Rattle.refusals.proofs.Clears.{when_clear, first_clear}
 use Rattle.rules.specs.Scans.{dp_of, start_wrong, phase_wrong, in_scan}
 use Rattle.rules.specs.Faults.{wrong_count, scan_fault, byte_fault, end_fault}
@@ -143,11 +143,11 @@ module _ (byte : ℕ → ℕ) (k : Plan) where
           ∙ eqb_shift (j * k.block * scan k) len p (rw (mul_assoc j k.block (scan k)) e)
 
   -- ---- what is kept from byte to byte
-  not_past : (i s p : ℕ) → byte_fault (shape_in k) byte i s p ≡ Clear → past byte k i s p ≡ false
+  not_past : (i s p : ℕ) → byte_fault (shape_in k) byte i s p ≡ Ok tt → past byte k i s p ≡ false
   unfolding byte_fault
   not_past i s p e = (first_clear (past byte k i s p) (Block p) (first_clear (eqb p 4294967295) (Long p) e).1).0
 
-  begun_next : (i s p : ℕ) → Begun byte k i s p → byte_fault (shape_in k) byte i s p ≡ Clear → Begun byte k i s (suc p)
+  begun_next : (i s p : ℕ) → Begun byte k i s p → byte_fault (shape_in k) byte i s p ≡ Ok tt → Begun byte k i s (suc p)
   unfolding ◌and◌ ◌or◌
   begun_next i s p (sole z) e = sole z
   begun_next i s p (over z m) e = absurd (clash true refl (rw (eq-eqb k.block 0 z) at (not_past i s p e)))
@@ -155,11 +155,11 @@ module _ (byte : ℕ → ℕ) (k : Plan) where
       let v : leb (i * (k.block * scan k) + k.block * scan k) p ≡ false = rw (ne_eqb k.block 0 n) at (not_past i s p e) in
       many {i = i} {p = suc p} n (omega (arith, leb-false (i * (k.block * scan k) + k.block * scan k) p v))
 
-  first_phase : (i s : ℕ) → byte_fault (shape_in k) byte i s 3 ≡ Clear → dp_of (shape_in k) byte 0 ≡ 0
+  first_phase : (i s : ℕ) → byte_fault (shape_in k) byte i s 3 ≡ Ok tt → dp_of (shape_in k) byte 0 ≡ 0
   unfolding byte_fault ◌and◌
   first_phase i s e =
       let f = (first_clear (past byte k i s 3) (Block 3) (first_clear (eqb 3 4294967295) (Long 3) e).1).1 in
-      let g : scan_fault (shape_in k) byte 0 (3 + 1) 3 ≡ Clear = rw (mod-eq_of_lt three, div-eq_of_lt three) at f in
+      let g : scan_fault (shape_in k) byte 0 (3 + 1) 3 ≡ Ok tt = rw (mod-eq_of_lt three, div-eq_of_lt three) at f in
       let u = (first_clear (start_wrong 4 (byte 3)) (Sync 3) g).1 in
       let v : eqb (dp_of (shape_in k) byte 0) 1 ≡ false = (first_clear (phase_wrong (shape_in k) byte 0) (Phase 3) u).0 in
       let n : dp_of (shape_in k) byte 0 ≡ 1 → ⊥ = eqb-false (dp_of (shape_in k) byte 0) 1 v in
@@ -168,7 +168,7 @@ module _ (byte : ℕ → ℕ) (k : Plan) where
       three : 3 < scan k
       three = omega arith
 
-  pub inv_next : (i s p : ℕ) → Inv byte k i s p → byte_fault (shape_in k) byte i s p ≡ Clear → Inv byte k i s (suc p)
+  pub inv_next : (i s p : ℕ) → Inv byte k i s p → byte_fault (shape_in k) byte i s p ≡ Ok tt → Inv byte k i s (suc p)
   inv_next i s p h e = record { begun = begun_next i s p h.begun e; phase = λ l. go (ltb 3 p) refl l }
     where
       go : (t : Bool) → ltb 3 p ≡ t → 3 < suc p → dp_of (shape_in k) byte 0 ≡ 0
@@ -190,6 +190,6 @@ module _ (byte : ℕ → ℕ) (k : Plan) where
       let q : p ≡ suc i * X = omega (arith, eqb-true p (i * X + X) (not-false _ v)) in
       subst⁻¹ (λ (x : ℕ). Begun byte k (suc i) x p) q (many n (omega arith))
 
-  pub inv_end : (i s p : ℕ) → Inv byte k i s p → end_fault (shape_in k) byte i s p ≡ Clear → Inv byte k (suc i) p p
+  pub inv_end : (i s p : ℕ) → Inv byte k i s p → end_fault (shape_in k) byte i s p ≡ Ok tt → Inv byte k (suc i) p p
   unfolding end_fault
   inv_end i s p h e = record { begun = begun_end i s p h.begun (when_clear (end_wrong s p) (Block p) e); phase = h.phase }

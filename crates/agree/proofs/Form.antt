@@ -1,9 +1,9 @@
 -- The reader's state after p bytes and i block ends, in closed form by the rules' own words.
 -- Assumes nothing.
+use Rattle.std.specs.Prelude.{Option, Some, None}
 use Prim.Native.Nat.{ℕ, zero, suc, ◌+◌, ◌-◌, ◌*◌, ◌/◌, ◌%◌, ◌^◌, ◌≤◌, ◌<◌, ◌∣◌}
 use mathlib.Core.Path.{◌≡◌, refl, sym, ap, ◌∙◌, subst}
 use mathlib.Core.Bool.{Bool, true, false, not}
-use mathlib.Core.Option.{Option, none, some}
 use native.Mathlib.Nat.{add-zero, add-suc, mul-mod_left, le-div_iff_mul-le, mul_assoc, mod-one, pow-suc, one-le-pow, dvd-mul_left, mod-mod_of_dvd}
 use native.Mathlib.Omega.{arith}
 use lib.Arith.{mod-mul, digits_div, digits_mod}
@@ -32,28 +32,28 @@ head_of k = record { code = k.code; scan = scan k; advance = 16 * k.interval * 2
 
 -- numbers for "or none"
 abbrev pub itbs : Option ℕ → ℕ
-itbs none = 0
-itbs (some b) = b
+itbs None = 0
+itbs (Some b) = b
 
 abbrev pub twis : Option ℕ → ℕ
-twis none = 0
-twis (some t) = 1
+twis None = 0
+twis (Some t) = 1
 
 abbrev pub wins : Option ℕ → ℕ
-wins none = 0
-wins (some t) = t * 256
+wins None = 0
+wins (Some t) = t * 256
 
-twi_grow : (w : Option ℕ) (t : ℕ) (b : Bool) → ◌≡◌ {A = ℕ} (pick (eqb (twis w) 0 and b) 1 (twis w)) (twis (or_next w (pick b (some t) none)))
+twi_grow : (w : Option ℕ) (t : ℕ) (b : Bool) → ◌≡◌ {A = ℕ} (pick (eqb (twis w) 0 and b) 1 (twis w)) (twis (or_next w (pick b (Some t) None)))
 unfolding pick ◌and◌
-twi_grow none t true = refl
-twi_grow none t false = refl
-twi_grow (some w) t b = refl
+twi_grow None t true = refl
+twi_grow None t false = refl
+twi_grow (Some w) t b = refl
 
-win_grow : (w : Option ℕ) (t : ℕ) (b : Bool) → pick (eqb (twis w) 0 and b) (t * 256) (wins w) ≡ wins (or_next w (pick b (some t) none))
+win_grow : (w : Option ℕ) (t : ℕ) (b : Bool) → pick (eqb (twis w) 0 and b) (t * 256) (wins w) ≡ wins (or_next w (pick b (Some t) None))
 unfolding pick ◌and◌
-win_grow none t true = refl
-win_grow none t false = refl
-win_grow (some w) t b = refl
+win_grow None t true = refl
+win_grow None t false = refl
+win_grow (Some w) t b = refl
 
 module _ (byte : ℕ → ℕ) where
   -- the last four bytes

@@ -1,5 +1,6 @@
 -- The calls that are open to callers, refused ones too: the pieces that are taken, and each call's own answer.
 -- Assumes nothing.
+use Rattle.std.specs.Prelude.{Err, Ok, Result, ⊤}
 use Prim.Native.Nat.{ℕ, ◌*◌, ◌/◌}
 use mathlib.Core.Path.{◌≡◌, refl, sym, ap, ◌∙◌}
 use mathlib.Core.Bool.{Bool, true, false}
@@ -11,8 +12,6 @@ use lib.ListN.{length}
 use borrow.Author.Tests.{ltb-false}
 use Rattle.basis.specs.Choice.{pick}
 use Rattle.refusals.specs.declared.Refusal.TheVariants.{Room, Block}
-use Rattle.refusals.specs.declared.Fault.{Fault}
-use Rattle.refusals.specs.declared.Fault.TheVariants.{Clear, At}
 use Rattle.refusals.specs.Table.{stop_refusal}
 use Rattle.scan.specs.declared.State.{State}
 use Rattle.scan.specs.Step as S
@@ -31,6 +30,7 @@ use Rattle.agree.specs.Calls.{Call, put, end, Reading, read_on, taken}
 use Rattle.agree.specs.Answers.{answer_from, room_answer}
 use Rattle.agree.proofs.Cuts.{pieces}
 use Rattle.agree.proofs.Whole.{step_of, emit_of, end_of, due_in, ended_due, ended_wrong, stopped_end, stop_in, feed_after}
+use Rattle.refusals.specs.declared.Refusal.{Refusal}
 
 -- ---- what each call comes to
 portion_fits : (s : State) (bs : List ℕ) (room : ℕ) → fitb s ≡ true → K.portion s bs room ≡ K.fit_portion s bs room
@@ -57,11 +57,11 @@ end_taken s e = rw e
 module _ (s : State) (f : fitb s ≡ true) where
   refused_state : (bs : List ℕ) (room : ℕ) → ltb room (2 * length bs) ≡ true → (K.portion s bs room).state ≡ s
   unfolding K.unchanged
-  refused_state bs room e = ap (λ (g : Gave). g.state) (portion_fits s bs room f) ∙ go (eqb s.stop 0) refl
+  refused_state bs room e = ap (λ (g : Gave State). g.state) (portion_fits s bs room f) ∙ go (eqb s.stop 0) refl
     where
       go : (t : Bool) → eqb s.stop 0 ≡ t → (K.fit_portion s bs room).state ≡ s
-      go true z = ap (λ (g : Gave). g.state) (fit_none s bs room z e)
-      go false z = ap (λ (g : Gave). g.state) (fit_off s bs room z)
+      go true z = ap (λ (g : Gave State). g.state) (fit_none s bs room z e)
+      go false z = ap (λ (g : Gave State). g.state) (fit_off s bs room z)
 
   wrote_none : (bs : List ℕ) (room : ℕ) → ltb room (2 * length bs) ≡ true → K.portion_wrote s bs room ≡ []
   unfolding K.portion_wrote K.fit_wrote pick
@@ -72,18 +72,18 @@ module _ (s : State) (f : fitb s ≡ true) where
       go false = refl
 
   end_state : (N.block_end s).state ≡ end_of s
-  end_state = ap (λ (g : Gave). g.state) (end_taken s f)
+  end_state = ap (λ (g : Gave State). g.state) (end_taken s f)
 
   -- ---- answers, from the stops before and after
-  on_answer : (t : State) (n m : ℕ) → m ≡ n / 2 → K.answered t n ≡ answer_from Clear (stop_in t) m
+  on_answer : (t : State) (n m : ℕ) → m ≡ n / 2 → K.answered t n ≡ answer_from (Ok tt) (stop_in t) m
   unfolding K.answered pick
   on_answer t n m e = rw e (go (eqb t.stop 0))
     where
-      go : (b : Bool) → pick b (A.GoingOn (n / 2)) (A.Stopped (n / 2) (stop_refusal t.stop t.stopat)) ≡ answer_from Clear (pick b Clear (At (stop_refusal t.stop t.stopat))) (n / 2)
+      go : (b : Bool) → pick b (A.GoingOn (n / 2)) (A.Stopped (n / 2) (stop_refusal t.stop t.stopat)) ≡ answer_from (Ok tt) (pick b (Ok tt) (Err (stop_refusal t.stop t.stopat))) (n / 2)
       go true = refl
       go false = refl
 
-  off_answer : eqb s.stop 0 ≡ false → (later : Fault) (m : ℕ) → K.answered s 0 ≡ answer_from (stop_in s) later m
+  off_answer : eqb s.stop 0 ≡ false → (later : Result ⊤ Refusal) (m : ℕ) → K.answered s 0 ≡ answer_from (stop_in s) later m
   unfolding K.answered pick
   off_answer z later m = rw z
 
@@ -91,7 +91,7 @@ module _ (s : State) (f : fitb s ≡ true) where
   unfolding K.answered pick
   off_room z = rw z
 
-  going : eqb s.stop 0 ≡ true → stop_in s ≡ Clear
+  going : eqb s.stop 0 ≡ true → stop_in s ≡ Ok tt
   unfolding pick
   going z = rw z
 

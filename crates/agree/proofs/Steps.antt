@@ -1,5 +1,6 @@
 -- One byte takes the closed form to the next, or halts it where the rules find a fault.
 -- Assumes nothing.
+use Rattle.std.specs.Prelude.{Err, Ok}
 use Prim.Native.Nat.{ℕ, zero, suc, ◌+◌, ◌-◌, ◌*◌, ◌/◌, ◌%◌, ◌^◌, ◌≤◌, ◌<◌}
 use mathlib.Core.Path.{◌≡◌, refl, sym, ap, ap₂, ◌∙◌}
 use mathlib.Core.Bool.{Bool, true, false, not}
@@ -19,7 +20,6 @@ use Rattle.basis.specs.Upto.{upto, sum_upto, list_upto}
 use Rattle.basis.proofs.Digits.{Next, along, wrap, next}
 use Rattle.refusals.specs.declared.Refusal.{Refusal}
 use Rattle.refusals.specs.declared.Refusal.TheVariants.{Long, Block, Sync, Timing, Phase}
-use Rattle.refusals.specs.declared.Fault.TheVariants.{Clear, At}
 use Rattle.refusals.specs.Table.{said}
 use Rattle.codes.specs.Codes.{group_of}
 use Rattle.codes.proofs.Rows.{Words, alone, fours}
@@ -48,9 +48,9 @@ module _ (byte : ℕ → ℕ) (k : Plan) (pos : 0 < width k) (some : 0 < per k) 
   abbrev pub halt_at : Refusal → ℕ → ℕ → State
   halt_at r i p = S.halted (form byte k i p) (said r).number
 
-  pub data Hop (i s p : ℕ) (t : Stepped) : Type 0 where
-    on : byte_fault (shape_in k) byte i s p ≡ Clear → t.state ≡ form byte k i (suc p) → out_at p ++ S.m_and_x t ≡ out_at (suc p) → Hop i s p t
-    off : (r : Refusal) → byte_fault (shape_in k) byte i s p ≡ At r → t.state ≡ halt_at r i p → S.m_and_x t ≡ [] → Hop i s p t
+  pub data Hop (i s p : ℕ) (t : Stepped State) : Type 0 where
+    on : byte_fault (shape_in k) byte i s p ≡ Ok tt → t.state ≡ form byte k i (suc p) → out_at p ++ S.m_and_x t ≡ out_at (suc p) → Hop i s p t
+    off : (r : Refusal) → byte_fault (shape_in k) byte i s p ≡ Err r → t.state ≡ halt_at r i p → S.m_and_x t ≡ [] → Hop i s p t
 
   module _ (p : ℕ) where
     abbrev j : ℕ
@@ -99,14 +99,14 @@ module _ (byte : ℕ → ℕ) (k : Plan) (pos : 0 < width k) (some : 0 < per k) 
     lead_early l = rw (lt-ltb r 8 l)
 
     -- a byte that completes no sample
-    quietly : (i s : ℕ) (t : Track) (e : ℕ) → byte_fault (shape_in k) byte i s p ≡ Clear → t ≡ track_at byte k j (suc r) → e ≡ exps byte k (suc p)
+    quietly : (i s : ℕ) (t : Track) (e : ℕ) → byte_fault (shape_in k) byte i s p ≡ Ok tt → t ≡ track_at byte k j (suc r) → e ≡ exps byte k (suc p)
         → samples_in k j (suc r) ≡ samples_in k j r → Hop i s p (S.still (S.moved (form byte k i p) t e (form byte k i p).off (byte p)))
     unfolding S.still S.m_and_x pick
     quietly i s t e f a b n =
         on f (goes i t e (form byte k i p).off a b (ap (sum_upto (off_at (shape_in k) byte)) (sym n)))
         (append-nil (out_at p) ∙ ap (list_upto (numbers_at (shape_in k) byte)) (silent n))
 
-    halts : (i s : ℕ) (q : Refusal) → byte_fault (shape_in k) byte i s p ≡ At q → Hop i s p (S.halt (form byte k i p) (said q).number)
+    halts : (i s : ℕ) (q : Refusal) → byte_fault (shape_in k) byte i s p ≡ Err q → Hop i s p (S.halt (form byte k i p) (said q).number)
     unfolding S.halt S.still S.m_and_x pick
     halts i s q f = off q f refl refl
 
@@ -142,7 +142,7 @@ module _ (byte : ℕ → ℕ) (k : Plan) (pos : 0 < width k) (some : 0 < per k) 
       unfolding S.start pick
       start_hop z = rw (full_same byte k i s p inv.begun z) (go (past byte k i s p) refl)
         where
-          here : past byte k i s p ≡ true → byte_fault (shape_in k) byte i s p ≡ At (Block p)
+          here : past byte k i s p ≡ true → byte_fault (shape_in k) byte i s p ≡ Err (Block p)
           here f = unfold byte_fault in (rw (l, f) refl)
 
           go : (t : Bool) → past byte k i s p ≡ t → Hop i s p (pick t (S.halt (form byte k i p) 15) (S.sync (form byte k i p) (byte p)))
@@ -199,7 +199,7 @@ module _ (byte : ℕ → ℕ) (k : Plan) (pos : 0 < width k) (some : 0 < per k) 
 
       -- ---- sample words
       -- past the eighth byte nothing is wrong with a scan
-      fine : 8 ≤ r → byte_fault (shape_in k) byte i s p ≡ Clear
+      fine : 8 ≤ r → byte_fault (shape_in k) byte i s p ≡ Ok tt
       unfolding pick ◌and◌ ◌or◌
       fine u =
           in_scan_lem (not_full byte k i s p inv.begun (λ x. omega arith))

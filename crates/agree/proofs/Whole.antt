@@ -1,10 +1,10 @@
 -- The reader follows the rules: over any pieces, its state, what it wrote and its closing answer are the rules' for the body that the pieces spell.
 -- Assumes nothing.
+use Rattle.std.specs.Prelude.{Err, None, Ok, Result, Some, ⊤, Option}
 use Prim.Native.Nat.{ℕ, zero, suc, ◌+◌, ◌-◌, ◌*◌, ◌/◌, ◌%◌, ◌≤◌, ◌<◌}
 use mathlib.Core.Path.{◌≡◌, refl, sym, ap, ap₂, ◌∙◌, subst}
 use mathlib.Core.Bool.{Bool, true, false, not}
 use mathlib.Core.List.{List, [], ◌∷◌, ◌++◌, append-nil, append_assoc}
-use mathlib.Core.Option.{Option, none, some}
 use native.Mathlib.Nat.{zero-div, zero-mod, zero-mul, mul-div_cancel}
 use native.Mathlib.Omega.{arith}
 use native.Mathlib.Numerals.{add-one}
@@ -16,8 +16,6 @@ use Rattle.basis.specs.Choice.{pick}
 use Rattle.basis.specs.Upto.{upto}
 use Rattle.refusals.specs.declared.Refusal.{Refusal}
 use Rattle.refusals.specs.declared.Refusal.TheVariants.{Block, Part, Open, Missing}
-use Rattle.refusals.specs.declared.Fault.{Fault}
-use Rattle.refusals.specs.declared.Fault.TheVariants.{Clear, At}
 use Rattle.refusals.specs.Order.{when, or_else}
 use Rattle.refusals.specs.Table.{said, stop_place, stop_refusal}
 use Rattle.scan.specs.declared.State.{State}
@@ -25,15 +23,11 @@ use Rattle.scan.specs.declared.Stepped.{Stepped}
 use Rattle.scan.specs.Step as S
 use Rattle.scan.proofs.Fold.{step_stopped}
 use Rattle.stream.specs.declared.Gave.{Gave}
-use Rattle.body.specs.declared.Itb.TheVariants as I
-use Rattle.body.specs.declared.Window.{Window}
-use Rattle.body.specs.declared.Window.TheVariants as W
-use Rattle.body.specs.declared.Closed.TheVariants as C
 use Rattle.stream.specs.declared.Answer.TheVariants as A
 use Rattle.stream.specs.Calls as K
 use Rattle.body.specs.Ends as N
 use Rattle.body.specs.Open as O
-use Rattle.body.specs.declared.Closing as B
+use Rattle.body.specs.declared.Report as B
 use Rattle.rules.specs.Tape.{Body, ends, start_of, size, byte_at}
 use Rattle.rules.specs.Scans.{Shape}
 use Rattle.rules.specs.Faults.{byte_fault, end_fault}
@@ -43,7 +37,7 @@ use Rattle.rules.proofs.Tapes.{size_last}
 use Rattle.rules.proofs.Laws.{Halts, long, block, sync, timing, phase, halts_at, byte_halts, end_halts, stop_halts}
 use Rattle.rules.proofs.Machine.{Run, Still, Follows, feed, uncut, Ran, went, fell, ran_all}
 use Rattle.agree.specs.Cuts.{Piece, spelled}
-use Rattle.agree.specs.Answers.{itb_given, window_given, closed_of}
+use Rattle.agree.specs.Answers.{closed_of}
 use Rattle.agree.proofs.Cuts.{pieces, pieces_uncut}
 use Rattle.agree.proofs.Plans.{Plan, group, scan, samples, shape_in, Sizes, wide, none_yet, before_is}
 use Rattle.agree.proofs.Form.{head_of, itbs, twis, wins, form, exps, Begun, sole, many, Inv}
@@ -91,22 +85,22 @@ again sync = refl
 again timing = refl
 again phase = refl
 
-pub same_at : {r q : Refusal} → At r ≡ At q → r ≡ q
+pub same_at : {r q : Refusal} → ◌≡◌ {A = Result ⊤ Refusal} (Err r) (Err q) → r ≡ q
 same_at e = cc
 
 -- the stop that a state keeps
-abbrev pub stop_in : State → Fault
-stop_in s = pick (eqb s.stop 0) Clear (At (stop_refusal s.stop s.stopat))
+abbrev pub stop_in : State → Result ⊤ Refusal
+stop_in s = pick (eqb s.stop 0) (Ok tt) (Err (stop_refusal s.stop s.stopat))
 
 -- ---- the closing answer
-itb_told : (sh : Shape) (byte : ℕ → ℕ) (n : ℕ) → 0 < n → I.Bit (itbs (first_itb sh byte n)) ≡ itb_given (first_itb sh byte n)
+itb_told : (sh : Shape) (byte : ℕ → ℕ) (n : ℕ) → 0 < n → Some (itbs (first_itb sh byte n)) ≡ first_itb sh byte n
 itb_told sh byte zero l = absurd (omega arith)
 itb_told sh byte (suc n) l = refl
 
-window_told : (w : Option ℕ) → ◌≡◌ {A = Window} (pick (eqb (twis w) 0) W.None (W.At (wins w / 256))) (window_given w)
+window_told : (w : Option ℕ) → ◌≡◌ {A = Option ℕ} (pick (eqb (twis w) 0) None (Some (wins w / 256))) w
 unfolding pick
-window_told none = refl
-window_told (some t) = let e : t * 256 / 256 ≡ t = omega arith in rw e
+window_told None = refl
+window_told (Some t) = let e : t * 256 / 256 ≡ t = omega arith in rw e
 
 -- a scan type was seen, so there was a scan
 scanned : (sh : Shape) (byte : ℕ → ℕ) (n : ℕ) → 0 < last_type sh byte n → 0 < n
@@ -132,9 +126,9 @@ module _ (k : Plan) (sized : Sizes k) (typed : 1 ≤ k.types) (d : Body) (small 
   stays i p q r h =
       let s : State = halted r i p in
       record {
-        steps = λ b. ap (λ (t : Stepped). t.state) (step_stopped s b (numbered h));
+        steps = λ b. ap (λ (t : Stepped State). t.state) (step_stopped s b (numbered h));
         emits = λ b. ap S.m_and_x (step_stopped s b (numbered h));
-        closes = ap (λ (t : Gave). t.state) (stopped_end s (numbered h));
+        closes = ap (λ (t : Gave State). t.state) (stopped_end s (numbered h));
       }
 
   abbrev due_now : ℕ → ℕ → Bool
@@ -145,25 +139,25 @@ module _ (k : Plan) (sized : Sizes k) (typed : 1 ≤ k.types) (d : Body) (small 
   unfolding N.due end_fault
   end_test i s p h = ap (λ (t : Bool). when t (Block p)) (due_same (byte_at d) k i s p h)
 
-  end_on_lem : (i s p : ℕ) → Begun (byte_at d) k i s p → end_fault (shape_in k) (byte_at d) i s p ≡ Clear → end_of (form (byte_at d) k i p) ≡ form (byte_at d) k (suc i) p
+  end_on_lem : (i s p : ℕ) → Begun (byte_at d) k i s p → end_fault (shape_in k) (byte_at d) i s p ≡ Ok tt → end_of (form (byte_at d) k i p) ≡ form (byte_at d) k (suc i) p
   unfolding N.one_end pick
   end_on_lem i s p h e = go (due_now i p) refl (sym (end_test i s p h) ∙ e)
     where
       more : N.one_end (form (byte_at d) k i p) ≡ form (byte_at d) k (suc i) p
       more = rw (add-one i)
 
-      go : (t : Bool) → due_now i p ≡ t → when (not t) (Block p) ≡ Clear → end_of (form (byte_at d) k i p) ≡ form (byte_at d) k (suc i) p
-      go true t f = ap (λ (g : Gave). g.state) (ended_due (form (byte_at d) k i p) refl t) ∙ more
+      go : (t : Bool) → due_now i p ≡ t → when (not t) (Block p) ≡ Ok tt → end_of (form (byte_at d) k i p) ≡ form (byte_at d) k (suc i) p
+      go true t f = ap (λ (g : Gave State). g.state) (ended_due (form (byte_at d) k i p) refl t) ∙ more
       go false t f = absurd (clear_at (sym f))
 
-  end_off : (i s p : ℕ) (r : Refusal) → Begun (byte_at d) k i s p → end_fault (shape_in k) (byte_at d) i s p ≡ At r → end_of (form (byte_at d) k i p) ≡ halted r i p
+  end_off : (i s p : ℕ) (r : Refusal) → Begun (byte_at d) k i s p → end_fault (shape_in k) (byte_at d) i s p ≡ Err r → end_of (form (byte_at d) k i p) ≡ halted r i p
   unfolding pick
   end_off i s p r h e = go (due_now i p) refl (sym (end_test i s p h) ∙ e)
     where
-      go : (t : Bool) → due_now i p ≡ t → when (not t) (Block p) ≡ At r → end_of (form (byte_at d) k i p) ≡ halted r i p
+      go : (t : Bool) → due_now i p ≡ t → when (not t) (Block p) ≡ Err r → end_of (form (byte_at d) k i p) ≡ halted r i p
       go true t f = absurd (clear_at f)
       go false t f =
-          ap (λ (g : Gave). g.state) (ended_wrong (form (byte_at d) k i p) refl t) ∙ ap (λ (q : Refusal). halted q i p) (same_at f)
+          ap (λ (g : Gave State). g.state) (ended_wrong (form (byte_at d) k i p) refl t) ∙ ap (λ (q : Refusal). halted q i p) (same_at f)
 
   follows : Follows step_of emit_of end_of (byte_fault (shape_in k) (byte_at d)) (end_fault (shape_in k) (byte_at d)) d (form (byte_at d) k) halted out (Inv (byte_at d) k)
   follows =
@@ -182,19 +176,19 @@ module _ (k : Plan) (sized : Sizes k) (typed : 1 ≤ k.types) (d : Body) (small 
         end_still = λ i s p r e. stays i p p r (end_halts (shape_in k) (byte_at d) i s p r e);
       }
     where
-      on_state : (i s p : ℕ) → byte_fault (shape_in k) (byte_at d) i s p ≡ Clear → Stepping i s p → step_of (form (byte_at d) k i p) (byte_at d p) ≡ form (byte_at d) k i (suc p)
+      on_state : (i s p : ℕ) → byte_fault (shape_in k) (byte_at d) i s p ≡ Ok tt → Stepping i s p → step_of (form (byte_at d) k i p) (byte_at d p) ≡ form (byte_at d) k i (suc p)
       on_state i s p e (on f c b) = c
       on_state i s p e (off r f c b) = absurd (clear_at (sym e ∙ f))
 
-      on_out : (i s p : ℕ) → byte_fault (shape_in k) (byte_at d) i s p ≡ Clear → Stepping i s p → out p ++ emit_of (form (byte_at d) k i p) (byte_at d p) ≡ out (suc p)
+      on_out : (i s p : ℕ) → byte_fault (shape_in k) (byte_at d) i s p ≡ Ok tt → Stepping i s p → out p ++ emit_of (form (byte_at d) k i p) (byte_at d p) ≡ out (suc p)
       on_out i s p e (on f c b) = b
       on_out i s p e (off r f c b) = absurd (clear_at (sym e ∙ f))
 
-      off_state : (i s p : ℕ) (r : Refusal) → byte_fault (shape_in k) (byte_at d) i s p ≡ At r → Stepping i s p → step_of (form (byte_at d) k i p) (byte_at d p) ≡ halted r i p
+      off_state : (i s p : ℕ) (r : Refusal) → byte_fault (shape_in k) (byte_at d) i s p ≡ Err r → Stepping i s p → step_of (form (byte_at d) k i p) (byte_at d p) ≡ halted r i p
       off_state i s p r e (on f c b) = absurd (clear_at (sym f ∙ e))
       off_state i s p r e (off q f c b) = rw (same_at (sym e ∙ f)) c
 
-      off_out : (i s p : ℕ) (r : Refusal) → byte_fault (shape_in k) (byte_at d) i s p ≡ At r → Stepping i s p → emit_of (form (byte_at d) k i p) (byte_at d p) ≡ []
+      off_out : (i s p : ℕ) (r : Refusal) → byte_fault (shape_in k) (byte_at d) i s p ≡ Err r → Stepping i s p → emit_of (form (byte_at d) k i p) (byte_at d p) ≡ []
       off_out i s p r e (on f c b) = absurd (clear_at (sym f ∙ e))
       off_out i s p r e (off q f c b) = b
 
@@ -222,7 +216,7 @@ module _ (k : Plan) (sized : Sizes k) (typed : 1 ≤ k.types) (d : Body) (small 
 
   -- the report of a whole body, by the state that has read it
   tally_same : (j : ℕ) → size d % scan k ≡ 0 → k.types ≤ last_type (shape_in k) (byte_at d) (size d / scan k)
-      → ◌≡◌ {A = B.Closing} (record { answer = C.Whole; report = N.tally (form (byte_at d) k j (size d)) }) (closed_of (report (report_of (shape_in k) d)))
+      → ◌≡◌ {A = Result B.Report Refusal} (Ok (N.tally (form (byte_at d) k j (size d)))) (closed_of (report (report_of (shape_in k) d)))
   unfolding N.tally N.window_of pick
   tally_same j z l =
       rw (
@@ -234,14 +228,14 @@ module _ (k : Plan) (sized : Sizes k) (typed : 1 ≤ k.types) (d : Body) (small 
       )
 
   -- 20, 21 or the report, once no part of a scan is left
-  last_three : (a b : Bool) (t : Report) (c : B.Closing) → (b ≡ false → c ≡ closed_of (report t))
-      → pick a (pick b (N.refused Missing) c) (N.refused Open) ≡ closed_of (answered (or_else (when (not a) Open) (when b Missing)) t)
+  last_three : (a b : Bool) (t : Report) (c : Result B.Report Refusal) → (b ≡ false → c ≡ closed_of (report t))
+      → pick a (pick b (Err Missing) c) (Err Open) ≡ closed_of (answered (or_else (when (not a) Open) (when b Missing)) t)
   unfolding pick
   last_three true true t c f = refl
   last_three true false t c f = f refl
   last_three false b t c f = refl
 
-  finish_same : (j t : ℕ) → Begun (byte_at d) k j t (size d) → t + length d.tail ≡ size d → stop_of (shape_in k) d ≡ Clear
+  finish_same : (j t : ℕ) → Begun (byte_at d) k j t (size d) → t + length d.tail ≡ size d → stop_of (shape_in k) d ≡ Ok tt
       → N.finish (form (byte_at d) k j (size d)) ≡ closed_of (closing (shape_in k) d)
   unfolding N.finish N.shut closing pick
   finish_same j t h n g = rw g (go (eqb (size d % scan k) 0) refl)
@@ -254,9 +248,9 @@ module _ (k : Plan) (sized : Sizes k) (typed : 1 ≤ k.types) (d : Body) (small 
       go false e = rw e
       go true e =
           let z : size d % scan k ≡ 0 = eqb-true (size d % scan k) 0 e in
-          let whole : B.Closing = record { answer = C.Whole; report = N.tally (form (byte_at d) k j (size d)) } in
+          let whole : Result B.Report Refusal = Ok (N.tally (form (byte_at d) k j (size d))) in
           rw e
-          (ap₂ (λ (a b : Bool). pick a (pick b (N.refused Missing) whole) (N.refused Open)) (shut_same (byte_at d) k j t (length d.tail) (size d) n z h) (ap (λ (m : ℕ). ltb m k.types) (at_end z))
+          (ap₂ (λ (a b : Bool). pick a (pick b (Err Missing) whole) (Err Open)) (shut_same (byte_at d) k j t (length d.tail) (size d) n z h) (ap (λ (m : ℕ). ltb m k.types) (at_end z))
           ∙ last_three (eqb (length d.tail) 0) few (report_of (shape_in k) d) whole
           (λ f. tally_same j z (ltb-false (last_type (shape_in k) (byte_at d) (size d / scan k)) k.types f)))
         where
@@ -269,11 +263,11 @@ module _ (k : Plan) (sized : Sizes k) (typed : 1 ≤ k.types) (d : Body) (small 
     pub stops : stop_in c.st ≡ stop_of (shape_in k) d
     pub closes : N.finish c.st ≡ closed_of (closing (shape_in k) d)
 
-  halted_finish : (s : State) (r : Refusal) → Halts s.place r → N.finish (S.halted s (said r).number) ≡ N.refused r
+  halted_finish : (s : State) (r : Refusal) → Halts s.place r → N.finish (S.halted s (said r).number) ≡ Err r
   unfolding N.finish S.halted pick
   halted_finish s r h = rw (numbered h, again h)
 
-  halted_stop : (s : State) (r : Refusal) → Halts s.place r → stop_in (S.halted s (said r).number) ≡ At r
+  halted_stop : (s : State) (r : Refusal) → Halts s.place r → stop_in (S.halted s (said r).number) ≡ Err r
   unfolding S.halted pick
   halted_stop s r h = rw (numbered h, again h)
 

@@ -1,11 +1,9 @@
 -- The bytes of a header block, or of a part of it, and what their halves write. "Byte 1" is the first; past the end stands 0.
 -- Assumes nothing.
-use Rattle.std.specs.Prelude.{ℕ, ◌+◌, ◌-◌, ◌*◌, ◌/◌, ◌%◌, Bool, ◌&&◌, List, leb, get_or}
+use Rattle.std.specs.Prelude.{ℕ, ◌+◌, ◌-◌, ◌*◌, ◌/◌, ◌%◌, Bool, ◌&&◌, List, leb, get_or, None, Option, Some}
 use Rattle.basis.specs.Choice.{pick}
 use Rattle.basis.specs.Upto.{all_upto}
 use Rattle.basis.specs.Digits.{written}
-use Rattle.block.specs.declared.Pair.{Pair}
-use Rattle.block.specs.declared.Pair.TheVariants.{Digits, NoPair}
 
 -- a byte is a digit pair: "each half 0 to 9"
 unfoldable pub is_pair : ℕ → Bool
@@ -16,8 +14,8 @@ unfoldable pub pair_of : ℕ → ℕ
 pair_of x = x / 16 * 10 + x % 16
 
 -- what asking for a digit pair answers
-unfoldable pub packed_of : ℕ → Pair
-packed_of x = pick (is_pair x) (Digits (pair_of x)) NoPair
+unfoldable pub packed_of : ℕ → Option ℕ
+packed_of x = pick (is_pair x) (Some (pair_of x)) None
 
 -- byte n, and its halves
 unfoldable pub byte : List ℕ → ℕ → ℕ

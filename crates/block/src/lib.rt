@@ -5,14 +5,8 @@
 ghost use Rattle.std.specs.Prelude.{◌≡◌, ◌+◌, ◌-◌, ◌<◌};
 ghost use Rattle.block.specs.Bytes.{is_pair, pair_of, packed_of, byte, upper, lower, pair, decimal, three_digits, binary, pairs};
 
-// A packed pair of digits, or none.
-#[derive(Clone, Copy)]
-pub enum Pair {
-    Digits(u8),
-    NoPair,
-}
-
 // Whether both halves of a byte are digits.
+#[tactic(auto, unfolding(crate::specs::Bytes::is_pair))]
 fn is_pair(byte: u8) -> bool
     ensures { result ≡ is_pair byte }
 {
@@ -21,6 +15,7 @@ fn is_pair(byte: u8) -> bool
 
 // What a byte's two digits write: the one place where a digit pair is worked out. The byte is the upper digit times sixteen plus the lower, so less six times the upper digit, as the deck's
 // service manual has it, it is what the page says: the upper times ten plus the lower.
+#[tactic(auto, unfolding(crate::specs::Bytes::pair_of))]
 fn pair_of(byte: u8) -> u8
     ensures { result ≡ pair_of byte }
 {
@@ -28,45 +23,41 @@ fn pair_of(byte: u8) -> u8
 }
 
 // A byte as a pair of digits.
-pub fn packed(byte: u8) -> Pair
+#[tactic(auto, unfolding(crate::specs::Bytes::packed_of, basis::specs::Choice::pick))]
+pub fn packed(byte: u8) -> Option<u8>
     ensures { result ≡ packed_of byte }
 {
-    if is_pair(byte) {
-        return Pair::Digits(pair_of(byte));
-    }
-    Pair::NoPair
+    is_pair(byte).then_some(pair_of(byte))
 }
 
-// The index of byte n; byte 0 is taken for byte 1, as the definition has it.
-fn index(n: u16) -> usize
-    ensures { result ≡ n - 1 }
-{
-    if n == 0 { 0 } else { n as usize - 1 }
-}
-
-// Byte n.
+// Byte n; byte 0 is taken for byte 1, as the definition has it.
+#[tactic(auto, unfolding(crate::specs::Bytes::byte))]
 pub fn byte_at(b: &[u8], n: u16) -> u8
     ensures { result ≡ byte b.now n }
 {
-    let i = index(n);
-    if i < b.len() { b[i] } else { 0 }
+    b.get(usize::from(n.saturating_sub(1)))
+        .copied()
+        .unwrap_or(0)
 }
 
 // The upper half of byte n.
+#[tactic(auto, unfolding(crate::specs::Bytes::upper))]
 pub fn upper_at(b: &[u8], n: u8) -> u8
     ensures { (result ≡ upper b.now n) × (result < 16) }
 {
-    byte_at(b, n as u16) / 16
+    byte_at(b, u16::from(n)) / 16
 }
 
 // The lower half of byte n.
+#[tactic(auto, unfolding(crate::specs::Bytes::lower))]
 pub fn lower_at(b: &[u8], n: u8) -> u8
     ensures { (result ≡ lower b.now n) × (result < 16) }
 {
-    byte_at(b, n as u16) % 16
+    byte_at(b, u16::from(n)) % 16
 }
 
 // The digit pair in byte n.
+#[tactic(auto, using(crate::proofs::Numbers::pair_small), unfolding(crate::specs::Bytes::pair))]
 pub fn pair_at(b: &[u8], n: u16) -> u8
     ensures { (result ≡ pair b.now n) × (result < 166) }
 {
@@ -74,48 +65,42 @@ pub fn pair_at(b: &[u8], n: u16) -> u8
 }
 
 // The number of four digits in bytes n and n + 1.
+#[tactic(auto, using(crate::proofs::Numbers::two_is))]
 pub fn two_pairs(b: &[u8], n: u8) -> u16
     ensures { result ≡ decimal b.now n (n + 1) }
 {
-    let n = n as u16;
-    pair_at(b, n) as u16 * 100 + pair_at(b, n + 1) as u16
+    let n = u16::from(n);
+    u16::from(pair_at(b, n)) * 100 + u16::from(pair_at(b, n + 1))
 }
 
 // The number of six digits in bytes n to n + 2.
+#[tactic(auto, using(crate::proofs::Numbers::three_is))]
 pub fn three_pairs(b: &[u8], n: u8) -> u32
     ensures { result ≡ decimal b.now n (n + 2) }
 {
-    let two = two_pairs(b, n) as u32;
-    two * 100 + pair_at(b, n as u16 + 2) as u32
+    u32::from(two_pairs(b, n)) * 100 + u32::from(pair_at(b, u16::from(n) + 2))
 }
 
 // The number of three digits in the lower half of byte n and in byte n + 1.
+#[tactic(auto, unfolding(crate::specs::Bytes::three_digits))]
 pub fn three_digits(b: &[u8], n: u8) -> u16
     ensures { result ≡ three_digits b.now n }
 {
-    lower_at(b, n) as u16 * 100 + pair_at(b, n as u16 + 1) as u16
+    u16::from(lower_at(b, n)) * 100 + u16::from(pair_at(b, u16::from(n) + 1))
 }
 
 // The binary number in bytes n and n + 1.
+#[tactic(auto, using(crate::proofs::Numbers::word_is))]
 pub fn word_at(b: &[u8], n: u8) -> u16
     ensures { result ≡ binary b.now n (n + 1) }
 {
-    let n = n as u16;
-    byte_at(b, n) as u16 * 256 + byte_at(b, n + 1) as u16
+    let n = u16::from(n);
+    u16::from_be_bytes([byte_at(b, n), byte_at(b, n + 1)])
 }
 
 // Whether bytes n to m are digit pairs.
 pub fn all_pairs(b: &[u8], n: u8, m: u8) -> bool
     ensures { result ≡ pairs b.now n m }
 {
-    let first = n as u16;
-    let last = m as u16;
-    let mut i: u16 = 0;
-    while first + i <= last {
-        if !is_pair(byte_at(b, first + i)) {
-            return false;
-        }
-        i += 1;
-    }
-    true
+    (u16::from(n)..u16::from(m) + 1).all(|i| is_pair(byte_at(b, i)))
 }

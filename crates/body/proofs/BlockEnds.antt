@@ -48,5 +48,5 @@ fit_end s f h =
 pub end_fit : (s : State) → fitb s ≡ true → fitb (block_end s).state ≡ true
 unfolding block_end ended unchanged stopb ◌or◌ ◌and◌
 end_fit s f =
-    let P : Gave → Type 0 = λ g. fitb g.state ≡ true in
+    let P : Gave State → Type 0 = λ g. fitb g.state ≡ true in
     pick_both P _ (pick_both P _ (pick_cases P _ (λ e. of_fit (one_end s) (fit_end s (fit_of s f) e)) (λ e. of_fit (halted s 15) (fit_halted s 15 (fit_of s f) refl))) f) f

@@ -1,6 +1,6 @@
 -- "A block end: 23, earlier stop, 15. Closing: 23, earlier stop, 19, 20, 21": what they answer.
 -- Assumes nothing.
-use Rattle.std.specs.Prelude.{ℕ, ◌+◌, ◌-◌, ◌*◌, ◌/◌, ◌%◌, Bool, eqb, ltb}
+use Rattle.std.specs.Prelude.{ℕ, ◌+◌, ◌-◌, ◌*◌, ◌/◌, ◌%◌, Bool, eqb, ltb, None, Option, Some, Ok, Err, Result}
 use Rattle.basis.specs.Choice.{pick, ◌and◌, ◌or◌}
 use Rattle.refusals.specs.declared.Refusal.{Refusal}
 use Rattle.refusals.specs.declared.Refusal.TheVariants as R
@@ -13,12 +13,7 @@ use Rattle.scan.specs.Fit.{fitb}
 use Rattle.scan.specs.Step.{halted}
 use Rattle.stream.specs.declared.Gave.{Gave}
 use Rattle.stream.specs.declared.Answer.TheVariants.{GoingOn, Stopped}
-use Rattle.body.specs.declared.Itb.TheVariants as I
-use Rattle.body.specs.declared.Window.{Window}
-use Rattle.body.specs.declared.Window.TheVariants as W
 use Rattle.body.specs.declared.Report.{Report}
-use Rattle.body.specs.declared.Closed.TheVariants as C
-use Rattle.body.specs.declared.Closing.{Closing}
 use Rattle.stream.specs.Calls.{answered, unchanged}
 
 -- "a block end is due after each": after some scans and `part` bytes of the next; a body of one block ends once
@@ -43,7 +38,7 @@ one_end s =
     }
 
 -- of a fit state: an earlier stop, then BLOCK; "a block end stops at the number of bytes so far"
-unfoldable pub ended : State → Gave
+unfoldable pub ended : State → Gave State
 ended s =
     pick (eqb s.stop 0)
     (pick (due s.shape.block (s.place / s.shape.scan) (s.place % s.shape.scan) s.ends)
@@ -52,7 +47,7 @@ ended s =
     (record { state = s; answer = answered s 0 })
 
 -- STATE comes first
-unfoldable pub block_end : State → Gave
+unfoldable pub block_end : State → Gave State
 block_end s = pick (fitb s) (ended s) (unchanged s R.State)
 
 -- the samples of a scan's whole groups
@@ -60,8 +55,8 @@ unfoldable pub per_scan : Shape → ℕ
 per_scan h = (h.scan - 8) / group_of h.code * per_of h.code
 
 -- "T of the first scan with TWI set, or none"
-unfoldable pub window_of : Track → Window
-window_of k = pick (eqb k.twi 0) W.None (W.At (k.window / 256))
+unfoldable pub window_of : Track → Option ℕ
+window_of k = pick (eqb k.twi 0) None (Some (k.window / 256))
 
 -- "it reports scans, samples, off-rule words, last scan type, ITB of the first scan"
 unfoldable pub tally : State → Report
@@ -71,33 +66,25 @@ tally s =
       samples = (s.place / s.shape.scan) * per_scan s.shape;
       off = s.off;
       last_type = s.track.seen;
-      itb = I.Bit s.track.itb;
+      itb = Some s.track.itb;
       window = window_of s.track;
     }
-
--- no report
-unfoldable pub nothing : Report
-nothing = record { scans = 0; samples = 0; off = 0; last_type = 0; itb = I.None; window = W.None }
-
--- a closing refused
-unfoldable pub refused : Refusal → Closing
-refused r = record { answer = C.Refused r; report = nothing }
 
 -- no byte stands after the last block end; "a body without bytes is 21"
 unfoldable pub shut : ℕ → ℕ → ℕ → Bool
 shut block scans ends = eqb scans 0 or pick (eqb block 0) (eqb ends 1) (eqb (scans % block) 0 and eqb (scans / block) ends)
 
 -- of a fit state: an earlier stop, PART, OPEN, MISSING, or the report
-unfoldable pub finish : State → Closing
+unfoldable pub finish : State → Result Report Refusal
 finish s =
     pick (eqb s.stop 0)
     (pick (eqb (s.place % s.shape.scan) 0)
     (pick (shut s.shape.block (s.place / s.shape.scan) s.ends)
-    (pick (ltb s.track.seen s.shape.types) (refused R.Missing) (record { answer = C.Whole; report = tally s }))
-    (refused R.Open))
-    (refused R.Part))
-    (refused (stop_refusal s.stop s.stopat))
+    (pick (ltb s.track.seen s.shape.types) (Err R.Missing) (Ok (tally s)))
+    (Err R.Open))
+    (Err R.Part))
+    (Err (stop_refusal s.stop s.stopat))
 
 -- STATE comes first
-unfoldable pub close : State → Closing
-close s = pick (fitb s) (finish s) (refused R.State)
+unfoldable pub close : State → Result Report Refusal
+close s = pick (fitb s) (finish s) (Err R.State)

@@ -1,16 +1,15 @@
 -- "Opening on an accepted header gives a state, a refused opening an all-zero one, unfit." The state is that of a body of scans; a demultiplexed record has none.
 -- Assumes nothing.
-use Rattle.std.specs.Prelude.{ℕ, ◌*◌, ◌^◌, List}
+use Rattle.std.specs.Prelude.{ℕ, ◌*◌, ◌^◌, List, Err, Ok, Result}
 use Rattle.basis.specs.Choice.{pick}
 use Rattle.codes.specs.Codes.{demultiplexed}
 use Rattle.header.specs.declared.Header.{Header}
-use Rattle.header.specs.declared.Answer.{Answer}
-use Rattle.header.specs.declared.Answer.TheVariants.{Accepted, Refused}
 use Rattle.header.specs.Answers.{header_answer}
 use Rattle.scan.specs.declared.Shape.{Shape}
 use Rattle.scan.specs.declared.State.{State}
 use Rattle.body.specs.declared.Opened.{Opened}
-use Rattle.body.specs.declared.Opening.TheVariants as O
+use Rattle.body.specs.declared.Body.TheVariants.{Scans, Traces}
+use Rattle.refusals.specs.declared.Refusal.{Refusal}
 
 -- B; 16 I in the top three of four bytes; ST/R; S/B x 2^S/BX
 unfoldable pub shape_of : Header → Shape
@@ -43,10 +42,10 @@ unfoldable pub unfit : State
 unfit = fresh (record { code = 0; scan = 0; advance = 0; types = 0; block = 0 })
 
 -- by the header's answer, and by its code
-abbrev pub opened_on : Answer → Opened
-opened_on (Accepted h) =
-    pick (demultiplexed h.code) (record { state = unfit; answer = O.Traces }) (record { state = fresh (shape_of h); answer = O.Scans })
-opened_on (Refused r) = record { state = unfit; answer = O.Refused r }
+abbrev pub opened_on : Result Header Refusal → Opened
+opened_on (Ok h) =
+    pick (demultiplexed h.code) (record { state = unfit; answer = Ok Traces }) (record { state = fresh (shape_of h); answer = Ok Scans })
+opened_on (Err r) = record { state = unfit; answer = Err r }
 
 -- opening on a block
 unfoldable pub opened : List ℕ → Opened

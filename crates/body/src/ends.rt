@@ -4,7 +4,7 @@ ghost use Rattle.codes.specs.Codes.{group_of};
 ghost use Rattle.scan.specs.Fit.{Fit};
 ghost use Rattle.body.specs.Ends as Ends;
 
-use crate::{Closed, Closing, Itb, Report, Window};
+use crate::Report;
 use refusals::{Refusal, stop_refusal};
 use scan::{Shape, State, Track};
 use stream::{Answer, Gave};
@@ -17,30 +17,23 @@ fn due(block: u32, scans: u32, part: u32, ends: u32) -> bool
         return false;
     }
     if block == 0 {
-        if ends == 0 {
-            return 0 < scans;
-        }
-        return false;
-    }
-    if scans % block != 0 {
-        return false;
+        return (ends == 0) & (0 < scans);
     }
     let full = scans / block;
     if full <= ends {
         return false;
     }
-    full == ends + 1
+    (scans % block == 0) & (full == ends + 1)
 }
 
 // An earlier stop, then BLOCK.
-pub(crate) fn end(s: State) -> Gave
+pub(crate) fn end(s: State) -> Gave<State>
     requires { Fit s }
     ensures { result ≡ Ends.ended s }
 {
-    let mut t = s;
     if s.stop != 0 {
         return Gave {
-            state: t,
+            state: s,
             answer: Answer::Stopped {
                 samples: 0,
                 refusal: stop_refusal(s.stop, s.stopat),
@@ -53,16 +46,20 @@ pub(crate) fn end(s: State) -> Gave
         s.place % s.shape.scan,
         s.ends,
     ) {
-        t.ends = s.ends + 1;
         return Gave {
-            state: t,
+            state: State {
+                ends: s.ends + 1,
+                ..s
+            },
             answer: Answer::GoingOn { samples: 0 },
         };
     }
-    t.stop = 15;
-    t.stopat = s.place;
     Gave {
-        state: t,
+        state: State {
+            stop: 15,
+            stopat: s.place,
+            ..s
+        },
         answer: Answer::Stopped {
             samples: 0,
             refusal: Refusal::Block { place: s.place },
@@ -83,20 +80,11 @@ fn per_scan(h: Shape) -> u32
     }
 }
 
-fn product(a: u32, b: u32) -> u64
-    ensures { result ≡ a * b }
-{
-    (a as u64) * (b as u64)
-}
-
-fn window_of(k: Track) -> Window
+// T of the first scan with TWI set.
+fn window_of(k: Track) -> Option<u32>
     ensures { result ≡ Ends.window_of k }
 {
-    if k.twi == 0 {
-        Window::None
-    } else {
-        Window::At(k.window / 256)
-    }
+    (k.twi != 0).then_some(k.window / 256)
 }
 
 fn tally(s: State) -> Report
@@ -104,31 +92,13 @@ fn tally(s: State) -> Report
     ensures { result ≡ Ends.tally s }
 {
     let scans = s.place / s.shape.scan;
-    let n = product(scans, per_scan(s.shape));
     Report {
-        scans: scans,
-        samples: n,
+        scans,
+        samples: u64::from(scans) * u64::from(per_scan(s.shape)),
         off: s.off,
         last_type: s.track.seen,
-        itb: Itb::Bit(s.track.itb),
+        itb: Some(s.track.itb),
         window: window_of(s.track),
-    }
-}
-
-// A closing refused: no report.
-pub(crate) fn refused(r: Refusal) -> Closing
-    ensures { result ≡ Ends.refused r }
-{
-    Closing {
-        answer: Closed::Refused(r),
-        report: Report {
-            scans: 0,
-            samples: 0,
-            off: 0,
-            last_type: 0,
-            itb: Itb::None,
-            window: Window::None,
-        },
     }
 }
 
@@ -142,31 +112,25 @@ fn shut(block: u32, scans: u32, ends: u32) -> bool
     if block == 0 {
         return ends == 1;
     }
-    if scans % block != 0 {
-        return false;
-    }
-    scans / block == ends
+    (scans % block == 0) & (scans / block == ends)
 }
 
 // An earlier stop, then PART, OPEN, MISSING; else the report.
-pub(crate) fn finish(s: State) -> Closing
+pub(crate) fn finish(s: State) -> Result<Report, Refusal>
     requires { Fit s }
     ensures { result ≡ Ends.finish s }
 {
     if s.stop != 0 {
-        return refused(stop_refusal(s.stop, s.stopat));
+        return Err(stop_refusal(s.stop, s.stopat));
     }
     if s.place % s.shape.scan != 0 {
-        return refused(Refusal::Part);
+        return Err(Refusal::Part);
     }
-    if shut(s.shape.block, s.place / s.shape.scan, s.ends) {
-        if s.track.seen < s.shape.types {
-            return refused(Refusal::Missing);
-        }
-        return Closing {
-            answer: Closed::Whole,
-            report: tally(s),
-        };
+    if !shut(s.shape.block, s.place / s.shape.scan, s.ends) {
+        return Err(Refusal::Open);
     }
-    refused(Refusal::Open)
+    if s.track.seen < s.shape.types {
+        return Err(Refusal::Missing);
+    }
+    Ok(tally(s))
 }

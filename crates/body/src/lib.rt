@@ -10,107 +10,74 @@ ghost use Rattle.body.specs.Open as Open;
 
 use refusals::Refusal;
 use scan::State;
-use stream::{Answer, Gave};
+use stream::Gave;
 
-// What opening on a header block answers: what its body is made of, or the header's refusal.
+// What a record's body is made of.
 #[derive(Clone, Copy)]
-pub enum Opening {
+pub enum Body {
     Scans,
     // a demultiplexed record: it has no body of scans
     Traces,
-    Refused(Refusal),
 }
 
+// What opening on a header block answers, or the header's refusal; with the state before the first byte, of a refused opening too.
 #[derive(Clone, Copy)]
 pub struct Opened {
     pub state: State,
-    pub answer: Opening,
+    pub answer: Result<Body, Refusal>,
 }
 
-// ITB of the first scan; none only where the closing is refused.
-#[derive(Clone, Copy)]
-pub enum Itb {
-    None,
-    Bit(u32),
-}
-
-// T of the first scan with TWI set.
-#[derive(Clone, Copy)]
-pub enum Window {
-    None,
-    At(u32),
-}
-
-#[derive(Clone, Copy)]
+// What a whole body had.
+#[derive(Clone, Copy, Default)]
 pub struct Report {
     pub scans: u32,
     pub samples: u64,
     pub off: u32,
     pub last_type: u32,
-    pub itb: Itb,
-    pub window: Window,
-}
-
-// What the closing question answers.
-#[derive(Clone, Copy)]
-pub enum Closed {
-    Whole,
-    Refused(Refusal),
-}
-
-// The report is all zero and none where the closing is refused.
-#[derive(Clone, Copy)]
-pub struct Closing {
-    pub answer: Closed,
-    pub report: Report,
+    // ITB of the first scan; none of a body of traces, which has no scans' starts
+    pub itb: Option<u32>,
+    // T of the first scan with TWI set
+    pub window: Option<u32>,
 }
 
 // Opening on a header block: the state before the first byte; all zero, and so unfit, where the header is refused or its body is not of scans.
 pub fn open(block: &[u8]) -> Opened
     ensures { result ≡ Open.opened block.now }
 {
-    let a = header::read_header(block);
-    match a {
-        header::Answer::Accepted(h) => {
-            if 0x8000 <= h.code {
-                return Opened {
-                    state: begin::unfit(),
-                    answer: Opening::Traces,
-                };
-            }
-            Opened {
-                state: begin::fresh(begin::shape_of(h)),
-                answer: Opening::Scans,
-            }
-        }
-        header::Answer::Refused(r) => Opened {
+    match header::read_header(block) {
+        Ok(h) if h.code < 0x8000 => Opened {
+            state: begin::fresh(begin::shape_of(h)),
+            answer: Ok(Body::Scans),
+        },
+        Ok(_) => Opened {
             state: begin::unfit(),
-            answer: Opening::Refused(r),
+            answer: Ok(Body::Traces),
+        },
+        Err(r) => Opened {
+            state: begin::unfit(),
+            answer: Err(r),
         },
     }
 }
 
 // A block end.
-pub fn block_end(s: State) -> Gave
+pub fn block_end(s: State) -> Gave<State>
     ensures { result ≡ Ends.block_end s }
 {
     if scan::fit(s) {
         ends::end(s)
     } else {
-        Gave {
-            state: s,
-            answer: Answer::Refused(Refusal::State),
-        }
+        stream::unchanged(s, Refusal::State)
     }
 }
 
 // The closing question.
-pub fn close(s: State) -> Closing
+pub fn close(s: State) -> Result<Report, Refusal>
     ensures { result ≡ Ends.close s }
 {
     if scan::fit(s) {
         ends::finish(s)
     } else {
-        ends::refused(Refusal::State)
+        Err(Refusal::State)
     }
 }

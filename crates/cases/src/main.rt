@@ -17,7 +17,8 @@ fn list_named(rt: &(impl Print + Eprint + Files), name: &[u8]) -> io::Result<()>
     }
 }
 
-// An argument that is longer than a path can be names none, as an empty one does.
+// An argument that is longer than a path can be names none, as an empty one does; `env::args` would end at one that is
+// no text.
 fn main(rt: HostRuntime) -> io::Result<()> {
     let mut name = [0u8; 4096];
     for i in 1..usize::MAX {

@@ -1,21 +1,21 @@
 -- What a test finds of every row of the table holds of the row of a code.
 -- Assumes nothing.
+use Rattle.std.specs.Prelude.{None, Option, Some}
 use Prim.Native.Nat.{ℕ, suc, ◌+◌, ◌*◌, ◌≤◌, ◌<◌}
 use mathlib.Core.Path.{◌≡◌, refl, subst}
-use mathlib.Core.Bool.{Bool, true, false, not, ◌&&◌, ◌||◌}
+use mathlib.Core.Bool.{Bool, true, false, cond, not, ◌&&◌, ◌||◌}
 use mathlib.Core.List.{List, [], ◌∷◌}
 use native.Mathlib.Omega.{arith}
 use lib.Dec.{T, T_not, eqb, leb, ltb, eqb→eq, leb→le, ltb→lt}
 use lib.Ieee.Bits.{is_true}
 use mir.Facts.{and_yes}
 use borrow.Author.Tests.{leb-true, eqb-true}
+use Rattle.std.proofs.lemmas.Option.{none-some, same_Some}
 use Rattle.basis.specs.Choice.{pick}
 use Rattle.basis.proofs.Choices.{and_true}
 use Rattle.basis.proofs.Tables.{every}
 use Rattle.codes.specs.declared.Row.{Row}
-use Rattle.codes.specs.declared.Found.{Found}
-use Rattle.codes.specs.declared.Found.TheVariants.{At, Nothing}
-use Rattle.codes.specs.Codes.{find_in, table, row_of, SoundRow, group_in, group_of, per_in, per_of, lead_in, lead_of, word_bytes_in, word_bytes_of, bits_of}
+use Rattle.codes.specs.Codes.{find_in, table, row_of, SoundRow, group_in, group_of, per_in, per_of, lead_in, lead_of, word_bytes_in, word_bytes_of, bits_of, of_row}
 
 -- the words of a group, whatever their width: one by itself, or four after their exponents
 pub data Words (group per lead word : ℕ) : Type 0 where
@@ -31,39 +31,27 @@ pub record Sized (group per lead word bits : ℕ) : Type 0 where
   pub wide : 0 < word
   pub many : 8 ≤ bits
 
-never : {r : Row} → Nothing ≡ At r → ⊥
-never e = let z : ◌≡◌ {A = ℕ} 0 1 = cc in omega arith
+one_of : (P : Row → Type 0) (a r : Row) (rest : Option Row) (t : Bool) → (t ≡ true → P a) → (rest ≡ Some r → P r) → cond t (Some a) rest ≡ Some r → P r
+one_of P a r rest true p g e = subst P (same_Some a r e) (p refl)
+one_of P a r rest false p g e = g e
 
-same_row : {a r : Row} → At a ≡ At r → a ≡ r
-same_row e = cc
-
-one_of : (f : Row → Bool) (a r : Row) (rest : Found) (t : Bool) → T (f a) → (rest ≡ At r → T (f r)) → pick t (At a) rest ≡ At r → T (f r)
-unfolding pick
-one_of f a r rest true p g e = subst (λ (x : Row). T (f x)) (same_row e) p
-one_of f a r rest false p g e = g e
-
-found : (f : Row → Bool) (rs : List Row) (i code : ℕ) (r : Row) → T (every (λ (k : ℕ). f) i rs) → find_in rs code ≡ At r → T (f r)
+found : (f : Row → Bool) (rs : List Row) (i code : ℕ) (r : Row) → T (every (λ (k : ℕ). f) i rs) → find_in rs code ≡ Some r → T (f r)
 unfolding find_in
-found f [] i code r t e = absurd (never e)
+found f [] i code r t e = absurd (none-some r e)
 found f (a ∷ rs) i code r t e =
     let p = and_yes (f a) (every (λ (k : ℕ). f) (suc i) rs) t in
-    one_of f a r (find_in rs code) (eqb a.code code) p.0 (found f rs (suc i) code r p.1) e
+    one_of (λ (x : Row). T (f x)) a r (find_in rs code) (eqb a.code code) (λ q. p.0) (found f rs (suc i) code r p.1) e
 
-pub holds : (f : Row → Bool) (rs : List Row) (code : ℕ) (r : Row) → T (every (λ (k : ℕ). f) 0 rs) → find_in rs code ≡ At r → T (f r)
+pub holds : (f : Row → Bool) (rs : List Row) (code : ℕ) (r : Row) → T (every (λ (k : ℕ). f) 0 rs) → find_in rs code ≡ Some r → T (f r)
 holds f rs code r t e = found f rs 0 code r t e
 
 -- the row of a code has that code
-code_of : (a r : Row) (code : ℕ) (rest : Found) (t : Bool) → eqb a.code code ≡ t → (rest ≡ At r → r.code ≡ code) → pick t (At a) rest ≡ At r → r.code ≡ code
-unfolding pick
-code_of a r code rest true p g e = subst (λ (x : Row). x.code ≡ code) (same_row e) (eqb-true a.code code p)
-code_of a r code rest false p g e = g e
-
-found_code : (rs : List Row) (code : ℕ) (r : Row) → find_in rs code ≡ At r → r.code ≡ code
+found_code : (rs : List Row) (code : ℕ) (r : Row) → find_in rs code ≡ Some r → r.code ≡ code
 unfolding find_in
-found_code [] code r e = absurd (never e)
-found_code (a ∷ rs) code r e = code_of a r code (find_in rs code) (eqb a.code code) refl (found_code rs code r) e
+found_code [] code r e = absurd (none-some r e)
+found_code (a ∷ rs) code r e = one_of (λ (x : Row). x.code ≡ code) a r (find_in rs code) (eqb a.code code) (eqb-true a.code code) (found_code rs code r) e
 
-pub row_code : (code : ℕ) (r : Row) → row_of code ≡ At r → r.code ≡ code
+pub row_code : (code : ℕ) (r : Row) → row_of code ≡ Some r → r.code ≡ code
 unfolding row_of
 row_code code r e = found_code table code r e
 
@@ -95,7 +83,7 @@ sound_fit r e =
       half = leb-true _ _ a.1;
     }
 
-pub fit : (code : ℕ) (r : Row) → row_of code ≡ At r → SoundRow r
+pub fit : (code : ℕ) (r : Row) → row_of code ≡ Some r → SoundRow r
 unfolding row_of table
 fit code r e = sound_fit r (is_true (sound r) (holds sound table code r tt e))
 
@@ -146,11 +134,19 @@ sized_in r t =
       many = leb→le _ _ z.0;
     }
 
-pub sized : (code : ℕ) (r : Row) → row_of code ≡ At r → Sized (group_of code) (per_of code) (lead_of code) (word_bytes_of code) (bits_of code)
+pub sized : (code : ℕ) (r : Row) → row_of code ≡ Some r → Sized (group_of code) (per_of code) (lead_of code) (word_bytes_of code) (bits_of code)
 unfolding row_of find_in table group_in per_in lead_in word_bytes_in pick group_of per_of lead_of word_bytes_of bits_of
 sized code r e = rw e (sized_in r (holds sizes table code r tt e))
 
-pub group_none : (code : ℕ) → row_of code ≡ Nothing → group_of code ≡ 0
+pub bits_few : (code : ℕ) → bits_of code ≤ 32
+unfolding bits_of
+bits_few code = go (row_of code) refl
+  where
+    go : (f : Option Row) → row_of code ≡ f → of_row (λ (r : Row). r.width) f ≤ 32
+    go None e = omega arith
+    go (Some r) e = (fit code r e).narrow
+
+pub group_none : (code : ℕ) → row_of code ≡ None → group_of code ≡ 0
 unfolding group_of
 group_none code e = rw e
 
@@ -158,6 +154,6 @@ group_none code e = rw e
 pub some_sized : (code : ℕ) → 0 < group_of code → Sized (group_of code) (per_of code) (lead_of code) (word_bytes_of code) (bits_of code)
 some_sized code h = go (row_of code) refl
   where
-    go : (f : Found) → row_of code ≡ f → Sized (group_of code) (per_of code) (lead_of code) (word_bytes_of code) (bits_of code)
-    go Nothing e = absurd (omega (arith, h, group_none code e))
-    go (At r) e = sized code r e
+    go : (f : Option Row) → row_of code ≡ f → Sized (group_of code) (per_of code) (lead_of code) (word_bytes_of code) (bits_of code)
+    go None e = absurd (omega (arith, h, group_none code e))
+    go (Some r) e = sized code r e

@@ -1,12 +1,12 @@
 -- "The twelve format codes stand in one table": its rows, the row of a code, and how many bytes its samples take on tape.
 -- Assumes nothing.
-use Rattle.std.specs.Prelude.{ℕ, ◌+◌, ◌-◌, ◌/◌, ◌%◌, ◌≤◌, Bool, List, [], ◌∷◌, eqb, leb}
+use Rattle.std.specs.Prelude.{ℕ, ◌+◌, ◌-◌, ◌/◌, ◌%◌, ◌≤◌, Bool, List, [], ◌∷◌, eqb, leb, Option}
+use Rattle.std.specs.List.{find}
+use Rattle.std.specs.Option.{option_map_or}
 use Rattle.basis.specs.Choice.{pick}
 use Rattle.codes.specs.declared.Kind.{Kind}
 use Rattle.codes.specs.declared.Kind.TheVariants.{OnesComplement, SignMagnitude, Justified}
 use Rattle.codes.specs.declared.Row.{Row}
-use Rattle.codes.specs.declared.Found.{Found}
-use Rattle.codes.specs.declared.Found.TheVariants.{At, Nothing}
 
 -- the columns: code, bits on tape, those of an exponent apart, fraction bits, log2 of the base, exponent bits, bias, kind
 abbrev pub row : ℕ → ℕ → ℕ → ℕ → ℕ → ℕ → ℕ → Kind → Row
@@ -31,12 +31,11 @@ table =
     []
 
 -- the first row with the code
-unfoldable pub find_in : List Row → ℕ → Found
-find_in [] code = Nothing
-find_in (r ∷ rs) code = pick (eqb r.code code) (At r) (find_in rs code)
+unfoldable pub find_in : List Row → ℕ → Option Row
+find_in rs code = find (λ (r : Row). eqb r.code code) rs
 
 -- the row of a code, where it is "among the twelve"
-unfoldable pub row_of : ℕ → Found
+unfoldable pub row_of : ℕ → Option Row
 row_of code = find_in table code
 
 -- "one of the six codes 80xx", of a code that is among the twelve
@@ -76,9 +75,8 @@ unfoldable pub word_bytes_in : Row → ℕ
 word_bytes_in r = (r.width - r.apart) / 8
 
 -- a number of the row that was found; 0 where the code is not among the twelve
-abbrev pub of_row : (Row → ℕ) → Found → ℕ
-of_row f Nothing = 0
-of_row f (At r) = f r
+abbrev pub of_row : (Row → ℕ) → Option Row → ℕ
+of_row f row = option_map_or f row 0
 
 -- the bytes of a group, of a code
 unfoldable pub group_of : ℕ → ℕ

@@ -5,7 +5,7 @@ ghost use Rattle.std.specs.Prelude.{◌≡◌, ◌≤◌};
 ghost use Rattle.codes.specs.Codes.{row_of, group_in, group_of, bits_of};
 
 // How a fraction is kept: its negatives complemented; with a sign beside it; or with a sign, and left justified in hexadecimal digits.
-#[derive(Clone, Copy)]
+#[derive(Clone, Copy, Debug, PartialEq, Eq)]
 pub enum Kind {
     OnesComplement,
     SignMagnitude,
@@ -13,7 +13,7 @@ pub enum Kind {
 }
 
 // One row of the table.
-#[derive(Clone, Copy)]
+#[derive(Clone, Copy, Debug, PartialEq, Eq)]
 pub struct Row {
     // the sixteen bits on the tape
     pub code: u16,
@@ -30,13 +30,6 @@ pub struct Row {
     // what is taken from an exponent
     pub bias: u32,
     pub kind: Kind,
-}
-
-// The row of a code; nothing where it is not among the twelve.
-#[derive(Clone, Copy)]
-pub enum Found {
-    At(Row),
-    Nothing,
 }
 
 // The rows of the multiplexed codes, by name: a reader of one code alone cites its row.
@@ -106,7 +99,7 @@ pub const ROW_48: Row = Row {
     kind: Kind::Justified,
 };
 
-const ROWS: [Row; 12] = [
+static ROWS: [Row; 12] = [
     ROW_15,
     ROW_22,
     ROW_24,
@@ -175,23 +168,15 @@ const ROWS: [Row; 12] = [
     },
 ];
 
-// The row of a code.
-pub fn find(code: u16) -> Found
+// The row of a code, if it is among the twelve.
+pub fn find(code: u16) -> Option<Row>
     ensures { result ≡ row_of code }
 {
-    let rows = ROWS;
-    let mut i: usize = 0;
-    while i < 12 {
-        let r = rows[i];
-        if r.code == code {
-            return Found::At(r);
-        }
-        i = i + 1;
-    }
-    Found::Nothing
+    ROWS.iter().find(|r| r.code == code).copied()
 }
 
 // The bytes of a row's group of samples on tape.
+#[tactic(auto, unfolding(crate::specs::Codes::group_in, basis::specs::Choice::pick))]
 fn group_in(r: Row) -> u32
     ensures { result ≡ group_in r }
 {
@@ -202,24 +187,17 @@ fn group_in(r: Row) -> u32
     }
 }
 
-// The same of a code, 0 where it is not among the twelve.
+// The same of a code, 0 where it is not among the twelve: fit_by and the demands go by that number, so it is no Option.
+#[tactic(auto, unfolding(crate::specs::Codes::group_of))]
 pub fn group(code: u16) -> u32
     ensures { result ≡ group_of code }
 {
-    let found = find(code);
-    match found {
-        Found::At(row) => group_in(row),
-        Found::Nothing => 0,
-    }
+    find(code).map_or(0, group_in)
 }
 
 // The bits of a code's sample on tape, 0 where it is not among the twelve.
 pub fn bits(code: u16) -> u32
     ensures { (result ≡ bits_of code) × (result ≤ 32) }
 {
-    let found = find(code);
-    match found {
-        Found::At(row) => row.width,
-        Found::Nothing => 0,
-    }
+    find(code).map_or(0, |r| r.width)
 }

@@ -1,24 +1,18 @@
 -- The header's answers laid flat.
 -- Assumes nothing.
-use Rattle.std.specs.Prelude.{pos}
-use Rattle.refusals.specs.Table.{told}
-use Rattle.block.specs.declared.Pair.{Pair}
-use Rattle.block.specs.declared.Pair.TheVariants.{Digits, NoPair}
+use Rattle.std.specs.Prelude.{pos, Option, Result, ℕ, is_some, unwrap_or}
+use Rattle.std.specs.Result.{result_unwrap_or}
 use Rattle.sets.specs.declared.ChannelSet.{ChannelSet}
 use Rattle.header.specs.declared.Header.{Header}
-use Rattle.header.specs.declared.Answer.{Answer}
-use Rattle.header.specs.declared.Answer.TheVariants as answered
-use Rattle.header.specs.declared.Described.{Described}
-use Rattle.header.specs.declared.Described.TheVariants.{Set, NoSet}
 use Rattle.deck.specs.declared.headers.SegdPair.{SegdPair}
 use Rattle.deck.specs.declared.headers.SegdHeader.{SegdHeader}
 use Rattle.deck.specs.declared.headers.SegdChannelSet.{SegdChannelSet}
-use Rattle.deck.specs.Flat.{unrefused}
+use Rattle.deck.specs.Flat.{flag, flat_fault}
+use Rattle.refusals.specs.declared.Refusal.{Refusal}
 
 -- a pair, or found 0
-abbrev pub flat_pair : Pair → SegdPair
-flat_pair (Digits n) = record { found = 1; value = n }
-flat_pair NoPair = record { found = 0; value = 0 }
+abbrev pub flat_pair : Option ℕ → SegdPair
+flat_pair p = record { found = flag (is_some p); value = unwrap_or p 0 }
 
 -- a header with every field 0
 abbrev pub no_header : Header
@@ -48,9 +42,8 @@ no_header = record {
 }
 
 -- the fields, or the refusal with all fields 0
-abbrev pub flat_header : Answer → SegdHeader
-flat_header (answered.Accepted h) = record { refusal = unrefused; header = h }
-flat_header (answered.Refused r) = record { refusal = told r; header = no_header }
+abbrev pub flat_header : Result Header Refusal → SegdHeader
+flat_header a = record { refusal = flat_fault a; header = result_unwrap_or a no_header }
 
 -- a channel set with every field 0
 abbrev pub no_set : ChannelSet
@@ -72,6 +65,5 @@ no_set = record {
 }
 
 -- the same of a channel set
-abbrev pub flat_set : Described → SegdChannelSet
-flat_set (Set d) = record { refusal = unrefused; set = d }
-flat_set (NoSet r) = record { refusal = told r; set = no_set }
+abbrev pub flat_set : Result ChannelSet Refusal → SegdChannelSet
+flat_set a = record { refusal = flat_fault a; set = result_unwrap_or a no_set }

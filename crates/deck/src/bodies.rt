@@ -6,11 +6,11 @@ ghost use Rattle.body.specs.Open.{opened};
 ghost use Rattle.stream.specs.Calls.{samples_told, portion, portion_wrote};
 ghost use Rattle.body.specs.Ends.{block_end, close};
 ghost use Rattle.trace_body.specs.Open as traces;
-ghost use Rattle.deck.specs.Bodies.{flat_opened, flat_answer, outcome_of, answer_fault, flat_gave, flat_closing, itb_known, itb_bit, window_known, window_at};
+ghost use Rattle.deck.specs.Bodies.{kind_of, flat_opened, outcome_of, answer_fault, flat_gave, flat_closing};
 
-use crate::{flat_fault, unrefused};
-use body::{Closed, Closing, Itb, Opening, Window};
-use refusals::{Fault, Told};
+use crate::flat_fault;
+use body::{Body, Report};
+use refusals::{Refusal, Told};
 use scan::State;
 use stream::{Answer, Gave};
 
@@ -25,32 +25,26 @@ pub struct SegdOpened {
     pub traces: trace::State,
 }
 
+// 1: a body of scans; 2: one of traces; 0: none. The numbers are those of segd.h, so they are told here and not by a From in body.
+fn kind(answer: Result<Body, Refusal>) -> u8
+    ensures { result ≡ kind_of answer }
+{
+    match answer {
+        Ok(Body::Scans) => 1,
+        Ok(Body::Traces) => 2,
+        Err(_) => 0,
+    }
+}
+
 pub fn segd_open(block: &[u8]) -> SegdOpened
     ensures { result ≡ flat_opened (opened block.now) (traces.opened block.now) }
 {
     let opened = body::open(block);
-    let traces = trace_body::open(block);
-    let answer = opened.answer;
-    let state = opened.state;
-    match answer {
-        Opening::Scans => SegdOpened {
-            refusal: unrefused(),
-            kind: 1,
-            state,
-            traces,
-        },
-        Opening::Traces => SegdOpened {
-            refusal: unrefused(),
-            kind: 2,
-            state,
-            traces,
-        },
-        Opening::Refused(r) => SegdOpened {
-            refusal: refusals::tell(r),
-            kind: 0,
-            state,
-            traces,
-        },
+    SegdOpened {
+        refusal: flat_fault(&opened.answer),
+        kind: kind(opened.answer),
+        state: opened.state,
+        traces: trace_body::open(block),
     }
 }
 
@@ -64,29 +58,25 @@ pub struct SegdGave {
     pub samples: u64,
 }
 
+// The numbers are those of segd.h, so they are told here and not by a From in stream.
 pub(crate) fn outcome(answer: Answer) -> u32
     ensures { result ≡ outcome_of answer }
 {
     match answer {
-        Answer::GoingOn { samples: _ } => 0,
-        Answer::Stopped {
-            samples: _,
-            refusal: _,
-        } => 1,
+        Answer::GoingOn { .. } => 0,
+        Answer::Stopped { .. } => 1,
         Answer::Refused(_) => 2,
     }
 }
 
-pub(crate) fn answer_fault(answer: Answer) -> Fault
+// answer_fault and samples_told are told here and are no methods of Answer: C's flat form alone asks them.
+pub(crate) fn answer_fault(answer: Answer) -> Result<(), Refusal>
     ensures { result ≡ answer_fault answer }
 {
     match answer {
-        Answer::GoingOn { samples: _ } => Fault::Clear,
-        Answer::Stopped {
-            samples: _,
-            refusal,
-        } => Fault::At(refusal),
-        Answer::Refused(r) => Fault::At(r),
+        Answer::GoingOn { .. } => Ok(()),
+        Answer::Stopped { refusal, .. } => Err(refusal),
+        Answer::Refused(refusal) => Err(refusal),
     }
 }
 
@@ -95,25 +85,20 @@ pub(crate) fn samples_told(answer: Answer) -> u64
 {
     match answer {
         Answer::GoingOn { samples } => samples as u64,
-        Answer::Stopped {
-            samples,
-            refusal: _,
-        } => samples as u64,
+        Answer::Stopped { samples, .. } => samples as u64,
         Answer::Refused(_) => 0,
     }
 }
 
 // By parts, so that the refusal is told at one place: LLVM then compiles this into the calls.
-fn gave(g: Gave) -> SegdGave
+fn gave(g: Gave<State>) -> SegdGave
     ensures { result ≡ flat_gave g }
 {
-    let answer = g.answer;
-    let state = g.state;
     SegdGave {
-        state,
-        outcome: outcome(answer),
-        refusal: flat_fault(answer_fault(answer)),
-        samples: samples_told(answer),
+        state: g.state,
+        outcome: outcome(g.answer),
+        refusal: flat_fault(&answer_fault(g.answer)),
+        samples: samples_told(g.answer),
     }
 }
 
@@ -131,7 +116,7 @@ pub fn segd_block_end(state: State) -> SegdGave
     gave(body::block_end(state))
 }
 
-// The report; or a refusal, with the report all 0. `itb_known` and `window_known` are 0 where there is none.
+// The report; or a refusal, with the report all 0. `itb_known` and `window_known` are 0 where there is none: C has no Option.
 #[repr(C)]
 #[derive(Clone, Copy)]
 pub struct SegdClosing {
@@ -146,69 +131,21 @@ pub struct SegdClosing {
     pub window: u32,
 }
 
-fn itb_known(itb: Itb) -> u32
-    ensures { result ≡ itb_known itb }
-{
-    match itb {
-        Itb::None => 0,
-        Itb::Bit(_) => 1,
-    }
-}
-
-fn itb_bit(itb: Itb) -> u32
-    ensures { result ≡ itb_bit itb }
-{
-    match itb {
-        Itb::None => 0,
-        Itb::Bit(b) => b,
-    }
-}
-
-fn window_known(window: Window) -> u32
-    ensures { result ≡ window_known window }
-{
-    match window {
-        Window::None => 0,
-        Window::At(_) => 1,
-    }
-}
-
-fn window_at(window: Window) -> u32
-    ensures { result ≡ window_at window }
-{
-    match window {
-        Window::None => 0,
-        Window::At(t) => t,
-    }
-}
-
-fn why(answer: Closed) -> Told
-    ensures { result ≡ flat_answer answer }
-{
-    match answer {
-        Closed::Whole => unrefused(),
-        Closed::Refused(r) => refusals::tell(r),
-    }
-}
-
 // By parts, as above.
-pub(crate) fn closing(c: Closing) -> SegdClosing
-    ensures { result ≡ flat_closing c }
+pub(crate) fn closing(answer: Result<Report, Refusal>) -> SegdClosing
+    ensures { result ≡ flat_closing answer }
 {
-    let answer = c.answer;
-    let report = c.report;
-    let itb = report.itb;
-    let window = report.window;
+    let report = answer.unwrap_or_default();
     SegdClosing {
-        refusal: why(answer),
+        refusal: flat_fault(&answer),
         scans: report.scans,
         off: report.off,
         samples: report.samples,
         last_type: report.last_type,
-        itb_known: itb_known(itb),
-        itb: itb_bit(itb),
-        window_known: window_known(window),
-        window: window_at(window),
+        itb_known: u32::from(report.itb.is_some()),
+        itb: report.itb.unwrap_or(0),
+        window_known: u32::from(report.window.is_some()),
+        window: report.window.unwrap_or(0),
     }
 }
 

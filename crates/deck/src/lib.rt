@@ -5,49 +5,29 @@
 ghost use Rattle.std.specs.Prelude.{◌≡◌};
 ghost use Rattle.codes.specs.Codes.{row_of};
 ghost use Rattle.words.specs.Words.{word_of};
-ghost use Rattle.deck.specs.Flat.{flag, flat_fault, flat_format, flat_word, kind_number, unrefused};
+ghost use Rattle.deck.specs.Flat.{flat_fault, flat_format, flat_word, kind_number};
 
-use codes::{Found, Kind};
-use refusals::{Fault, Told};
-use words::Word;
+use codes::Kind;
+use refusals::{Refusal, Told};
 
 pub mod bodies;
 pub mod headers;
 pub mod places;
 pub mod traces;
 
-// 1 where the test holds, else 0.
-fn flag_of(t: bool) -> u8
-    ensures { result ≡ flag t }
+// An answer's refusal, if it is one.
+fn flat_fault<T>(answer: &Result<T, Refusal>) -> Told
+    ensures { result ≡ flat_fault answer.now }
 {
-    if t { 1 } else { 0 }
-}
-
-// No refusal.
-fn unrefused() -> Told
-    ensures { result ≡ unrefused }
-{
-    Told {
-        number: 0,
-        first: 0,
-        second: 0,
-        third: 0,
+    match answer {
+        Ok(_) => Told::default(),
+        Err(r) => refusals::tell(*r),
     }
 }
 
-// A refusal, if there is one.
-fn flat_fault(fault: Fault) -> Told
-    ensures { result ≡ flat_fault fault }
-{
-    match fault {
-        Fault::Clear => unrefused(),
-        Fault::At(r) => refusals::tell(r),
-    }
-}
-
-// A format's row; `found` is 0, and so is all else, where there is no such code.
+// A format's row; `found` is 0, and so is all else, where there is no such code. C has no Option: here and in the structs below a flag stands beside the values (include/segd.h).
 #[repr(C)]
-#[derive(Clone, Copy)]
+#[derive(Clone, Copy, Default)]
 pub struct SegdFormat {
     pub found: u8,
     // 1: negatives complemented; 2: sign and magnitude; 3: the same, left justified
@@ -60,6 +40,7 @@ pub struct SegdFormat {
     pub bias: u32,
 }
 
+// The numbers are those of segd.h, so they are told here and not by a From in codes.
 fn kind_number(kind: Kind) -> u8
     ensures { result ≡ kind_number kind }
 {
@@ -73,31 +54,18 @@ fn kind_number(kind: Kind) -> u8
 pub fn segd_format(code: u16) -> SegdFormat
     ensures { result ≡ flat_format (row_of code) }
 {
-    let found = codes::find(code);
-    match found {
-        Found::At(row) => {
-            let kind = row.kind;
-            SegdFormat {
-                found: 1,
-                kind: kind_number(kind),
-                width: row.width,
-                apart: row.apart,
-                fraction: row.fraction,
-                base: row.base,
-                exponent: row.exponent,
-                bias: row.bias,
-            }
-        }
-        Found::Nothing => SegdFormat {
-            found: 0,
-            kind: 0,
-            width: 0,
-            apart: 0,
-            fraction: 0,
-            base: 0,
-            exponent: 0,
-            bias: 0,
+    match codes::find(code) {
+        Some(row) => SegdFormat {
+            found: 1,
+            kind: kind_number(row.kind),
+            width: row.width,
+            apart: row.apart,
+            fraction: row.fraction,
+            base: row.base,
+            exponent: row.exponent,
+            bias: row.bias,
         },
+        None => SegdFormat::default(),
     }
 }
 
@@ -115,18 +83,11 @@ pub fn segd_read_word(code: u16, c: u32, word: u32) -> SegdWord
     ensures { result ≡ flat_word (word_of code c word) }
 {
     let answer = words::read_word(code, c, word);
-    match answer {
-        Word::Sample { m, x, off } => SegdWord {
-            refusal: unrefused(),
-            m,
-            x,
-            off: flag_of(off),
-        },
-        Word::Refused(r) => SegdWord {
-            refusal: refusals::tell(r),
-            m: 0,
-            x: 0,
-            off: 0,
-        },
+    let sample = answer.unwrap_or_default();
+    SegdWord {
+        refusal: flat_fault(&answer),
+        m: sample.m,
+        x: sample.x,
+        off: u8::from(sample.off),
     }
 }

@@ -1,4 +1,4 @@
-// Where samples stand, the parts of the block, skew and time. A part is told by its place in what was lent, and its length.
+// Where samples stand, the parts of the block, skew and time. A part is told by its place in what was lent, and its length. The parameters come one by one, as in include/segd.h.
 ghost use Rattle.std.specs.Prelude.{◌≡◌, ◌*◌};
 ghost use Rattle.general.specs.General.{extended_fields, external_fields};
 ghost use Rattle.header.specs.Faults.{header_fault};
@@ -8,11 +8,9 @@ ghost use Rattle.skew.specs.Skews.{skew_fault, skew_answer};
 ghost use Rattle.skew.specs.Times.{time_answer};
 ghost use Rattle.deck.specs.Places.{flat_index, flat_place, flat_part, flat_skew, flat_byte, flat_time};
 
-use crate::{flag_of, unrefused};
+use crate::flat_fault;
 use block::pair_at;
-use layout::{Index, Place};
-use refusals::{Fault, Told};
-use skew::{Skewed, Timed};
+use refusals::{Refusal, Told};
 
 // Sample k of a scan; 0 where it is refused.
 #[repr(C)]
@@ -32,15 +30,9 @@ pub fn segd_sample_index(
     ensures { result ≡ flat_index (index_answer block.now scan_type set channel subscan) }
 {
     let answer = layout::sample_index(block, scan_type, set, channel, subscan);
-    match answer {
-        Index::Sample(k) => SegdIndex {
-            refusal: unrefused(),
-            k,
-        },
-        Index::NoSample(r) => SegdIndex {
-            refusal: refusals::tell(r),
-            k: 0,
-        },
+    SegdIndex {
+        refusal: flat_fault(&answer),
+        k: answer.unwrap_or(0),
     }
 }
 
@@ -58,23 +50,12 @@ pub fn segd_sample_place(block: &[u8], scan_type: u32, k: u32) -> SegdPlace
     ensures { result ≡ flat_place (place_answer block.now scan_type k) }
 {
     let answer = layout::sample_place(block, scan_type, k);
-    match answer {
-        Place::Sits {
-            set,
-            channel,
-            subscan,
-        } => SegdPlace {
-            refusal: unrefused(),
-            set,
-            channel,
-            subscan,
-        },
-        Place::NoPlace(r) => SegdPlace {
-            refusal: refusals::tell(r),
-            set: 0,
-            channel: 0,
-            subscan: 0,
-        },
+    let place = answer.unwrap_or_default();
+    SegdPlace {
+        refusal: flat_fault(&answer),
+        set: place.set,
+        channel: place.channel,
+        subscan: place.subscan,
     }
 }
 
@@ -88,16 +69,16 @@ pub struct SegdPart {
 }
 
 // The part where there is no fault, else the refusal and no part.
-fn part(fault: Fault, offset: usize, length: usize) -> SegdPart
+fn part(fault: Result<(), Refusal>, offset: usize, length: usize) -> SegdPart
     ensures { result ≡ flat_part fault offset length }
 {
     match fault {
-        Fault::Clear => SegdPart {
-            refusal: unrefused(),
+        Ok(()) => SegdPart {
+            refusal: Told::default(),
             offset: offset as u64,
             length: length as u64,
         },
-        Fault::At(r) => SegdPart {
+        Err(r) => SegdPart {
             refusal: refusals::tell(r),
             offset: 0,
             length: 0,
@@ -118,7 +99,7 @@ pub fn segd_extended(block: &[u8]) -> SegdPart
     part(
         fault,
         parts::extended_place(block),
-        32 * pair_at(block, 31) as usize,
+        32 * usize::from(pair_at(block, 31)),
     )
 }
 
@@ -126,8 +107,8 @@ pub fn segd_external(block: &[u8]) -> SegdPart
     ensures { result ≡ flat_part (header_fault block.now) (external_place block.now) (32 * external_fields block.now) }
 {
     let fault = header::header_fault(block);
-    let start = parts::extended_place(block) + 32 * pair_at(block, 31) as usize;
-    part(fault, start, 32 * pair_at(block, 32) as usize)
+    let start = parts::extended_place(block) + 32 * usize::from(pair_at(block, 31));
+    part(fault, start, 32 * usize::from(pair_at(block, 32)))
 }
 
 // The skew bytes of a scan type: whether they stand in the sheet, how many bytes come before them there, and how many they are.
@@ -143,19 +124,17 @@ pub struct SegdSkew {
 pub fn segd_skew(block: &[u8], sheet: &[u8], scan_type: u32) -> SegdSkew
     ensures { result ≡ flat_skew (skew_fault block.now sheet.now scan_type) block.now scan_type }
 {
-    let fault = skew::skew_fault(block, sheet, scan_type);
-    match fault {
-        Fault::Clear => {
+    match skew::skew_fault(block, sheet, scan_type) {
+        Ok(()) => {
             let t = (scan_type - 1) as u8;
-            let samples = sets::samples(block, t);
             SegdSkew {
-                refusal: unrefused(),
-                of_sheet: flag_of(pair_at(block, 30) == 0),
+                refusal: Told::default(),
+                of_sheet: u8::from(pair_at(block, 30) == 0),
                 offset: skew::skew_place(block, t) as u64,
-                length: samples as u64,
+                length: sets::samples(block, t) as u64,
             }
         }
-        Fault::At(r) => SegdSkew {
+        Err(r) => SegdSkew {
             refusal: refusals::tell(r),
             of_sheet: 0,
             offset: 0,
@@ -176,15 +155,9 @@ pub fn segd_skew_at(block: &[u8], sheet: &[u8], scan_type: u32, k: u32) -> SegdB
     ensures { result ≡ flat_byte (skew_answer block.now sheet.now scan_type k) }
 {
     let answer = skew::skew_at(block, sheet, scan_type, k);
-    match answer {
-        Skewed::Skew(value) => SegdByte {
-            refusal: unrefused(),
-            value,
-        },
-        Skewed::NoSkew(r) => SegdByte {
-            refusal: refusals::tell(r),
-            value: 0,
-        },
+    SegdByte {
+        refusal: flat_fault(&answer),
+        value: answer.unwrap_or(0),
     }
 }
 
@@ -200,14 +173,8 @@ pub fn segd_sample_time(block: &[u8], sheet: &[u8], scan_type: u32, k: u32, t: u
     ensures { result ≡ flat_time (time_answer block.now sheet.now scan_type k t) }
 {
     let answer = skew::sample_time(block, sheet, scan_type, k, t);
-    match answer {
-        Timed::Time(time) => SegdTime {
-            refusal: unrefused(),
-            time,
-        },
-        Timed::NoTime(r) => SegdTime {
-            refusal: refusals::tell(r),
-            time: 0,
-        },
+    SegdTime {
+        refusal: flat_fault(&answer),
+        time: answer.unwrap_or(0),
     }
 }

@@ -8,12 +8,12 @@ ghost use Rattle.deck.specs.Bodies.{flat_closing};
 ghost use Rattle.deck.specs.Traces.{flat_trace_gave, flat_trace_place};
 
 use crate::bodies::{SegdClosing, answer_fault, closing, outcome, samples_told};
-use crate::{flat_fault, unrefused};
+use crate::flat_fault;
 use refusals::Told;
-use trace::{Gave, State};
-use turns::Placed;
+use stream::Gave;
+use trace::State;
 
-// As SegdGave, with the state of a trace body.
+// As SegdGave, with the state of a trace body: C has no generic struct, and the outcome is a number there.
 #[repr(C)]
 #[derive(Clone, Copy)]
 pub struct SegdTraceGave {
@@ -23,16 +23,14 @@ pub struct SegdTraceGave {
     pub samples: u64,
 }
 
-fn trace_gave(g: Gave) -> SegdTraceGave
+fn trace_gave(g: Gave<State>) -> SegdTraceGave
     ensures { result ≡ flat_trace_gave g }
 {
-    let answer = g.answer;
-    let state = g.state;
     SegdTraceGave {
-        state,
-        outcome: outcome(answer),
-        refusal: flat_fault(answer_fault(answer)),
-        samples: samples_told(answer),
+        state: g.state,
+        outcome: outcome(g.answer),
+        refusal: flat_fault(&answer_fault(g.answer)),
+        samples: samples_told(g.answer),
     }
 }
 
@@ -78,28 +76,13 @@ pub fn segd_trace_place(block: &[u8], trace: u32, sample: u32) -> SegdTracePlace
     ensures { result ≡ flat_trace_place (placed_at block.now trace sample) }
 {
     let answer = turns::place(block, trace, sample);
-    match answer {
-        Placed::Of {
-            scan_type,
-            set,
-            channel,
-            scan,
-            subscan,
-        } => SegdTracePlace {
-            refusal: unrefused(),
-            scan_type,
-            set,
-            channel,
-            scan,
-            subscan,
-        },
-        Placed::Refused(r) => SegdTracePlace {
-            refusal: refusals::tell(r),
-            scan_type: 0,
-            set: 0,
-            channel: 0,
-            scan: 0,
-            subscan: 0,
-        },
+    let placed = answer.unwrap_or_default();
+    SegdTracePlace {
+        refusal: flat_fault(&answer),
+        scan_type: placed.scan_type,
+        set: placed.set,
+        channel: placed.channel,
+        scan: placed.scan,
+        subscan: placed.subscan,
     }
 }

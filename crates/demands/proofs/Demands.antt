@@ -1,5 +1,6 @@
 -- The three demands hold, and the lister's.
 -- Assumes nothing.
+use Rattle.std.specs.Prelude.{Err, Ok, Result, ⊤}
 use Prim.Native.Nat.{ℕ, ◌+◌, ◌-◌, ◌*◌, ◌/◌, ◌%◌, ◌^◌, ◌<◌}
 use mathlib.Core.Path.{◌≡◌, refl, subst}
 use mathlib.Core.Bool.{true, not}
@@ -15,16 +16,12 @@ use Rattle.codes.specs.declared.Row.{Row}
 use Rattle.codes.specs.Codes.{SoundRow}
 use Rattle.codes.proofs.Rows.{fit}
 use Rattle.refusals.specs.declared.Refusal.TheVariants.{Index, Sheet}
-use Rattle.refusals.specs.declared.Fault.{Fault}
-use Rattle.refusals.specs.declared.Fault.TheVariants.{Clear, At}
 use Rattle.refusals.specs.Order.{when, or_else}
 use Rattle.refusals.proofs.Clears.{both_clear}
 use Rattle.general.specs.General.{interval_of}
 use Rattle.sets.specs.declared.ChannelSet.{ChannelSet}
 use Rattle.sets.specs.ChannelSets.{channel_set_of}
 use Rattle.header.specs.declared.Header.{Header}
-use Rattle.header.specs.declared.Answer.TheVariants as answer
-use Rattle.header.specs.declared.Described.TheVariants as described
 use Rattle.header.specs.Faults.{header_fault}
 use Rattle.header.specs.Answers.{header_of, header_answer, answer_after, is_set, descriptor_answer, described_after}
 use Rattle.layout.specs.Indexes.{has_sample, place_fault}
@@ -37,8 +34,6 @@ use Rattle.header.proofs.Accepted.{descriptor_inside, subscans_small, skew_insid
 use Rattle.layout.proofs.WordLaws.{words_apart, word_inside, words_fill}
 use Rattle.body.proofs.Opens.{open_unfit}
 use Rattle.stream.proofs.Stops.{stop_said}
-use Rattle.skew.specs.declared.Skewed.TheVariants.{Skew}
-use Rattle.skew.specs.declared.Timed.TheVariants.{Time}
 use Rattle.skew.specs.Skews.{sheet_holds, skew_byte, skew_byte_fault, skew_after, skew_answer}
 use Rattle.skew.specs.Times.{time_by, time_fault, time_answer, time_after}
 use Rattle.rules.specs.Tape.{Body, byte_at}
@@ -61,17 +56,21 @@ use Rattle.demands.proofs.Uniques.{unique}
 use Rattle.demands.proofs.Helds.{unique_held}
 use Rattle.demands.proofs.Bounds.{bound}
 use Rattle.demands.proofs.BoundHelds.{bound_held}
+use Rattle.demands.proofs.Eachs.{unique_of_each, bound_of_each}
 use Rattle.demands.proofs.Owed.{owed}
 use Rattle.demands.proofs.Handed.{external_next, external_last, skew_bytes_lem}
 use Rattle.demands.proofs.Figures.{all_figures}
+use Rattle.refusals.specs.declared.Refusal.{Refusal}
 
 -- ---- 1
 pub demand1 : Demand1
 demand1 = record {
   one = unique;
   held = unique_held;
+  each = unique_of_each;
   bound = bound;
   bound_held = bound_held;
+  bound_each = bound_of_each;
   numbers = numbers;
   four = four;
   stopping = stopping;
@@ -84,49 +83,49 @@ demand1 = record {
 
 -- ---- 2
 -- an answer that is given was given where there is no fault
-header_given : (f : Fault) (a h : Header) → answer_after f a ≡ answer.Accepted h → (f ≡ Clear) × (h ≡ a)
-header_given Clear a h e = (refl, cc)
-header_given (At r) a h e = let z : ◌≡◌ {A = ℕ} 0 1 = cc in absurd (omega arith)
+header_given : (f : Result ⊤ Refusal) (a h : Header) → answer_after f a ≡ Ok h → (f ≡ Ok tt) × (h ≡ a)
+header_given (Ok tt) a h e = (refl, cc)
+header_given (Err r) a h e = let z : ◌≡◌ {A = ℕ} 0 1 = cc in absurd (omega arith)
 
-set_given : (f : Fault) (a d : ChannelSet) → described_after f a ≡ described.Set d → (f ≡ Clear) × (d ≡ a)
-set_given Clear a d e = (refl, cc)
-set_given (At r) a d e = let z : ◌≡◌ {A = ℕ} 0 1 = cc in absurd (omega arith)
+set_given : (f : Result ⊤ Refusal) (a d : ChannelSet) → described_after f a ≡ Ok d → (f ≡ Ok tt) × (d ≡ a)
+set_given (Ok tt) a d e = (refl, cc)
+set_given (Err r) a d e = let z : ◌≡◌ {A = ℕ} 0 1 = cc in absurd (omega arith)
 
-skew_given : (f : Fault) (a x : ℕ) → skew_after f a ≡ Skew x → (f ≡ Clear) × (x ≡ a)
-skew_given Clear a x e = (refl, cc)
-skew_given (At r) a x e = let z : ◌≡◌ {A = ℕ} 0 1 = cc in absurd (omega arith)
+skew_given : (f : Result ⊤ Refusal) (a x : ℕ) → skew_after f a ≡ Ok x → (f ≡ Ok tt) × (x ≡ a)
+skew_given (Ok tt) a x e = (refl, cc)
+skew_given (Err r) a x e = let z : ◌≡◌ {A = ℕ} 0 1 = cc in absurd (omega arith)
 
-time_given : (f : Fault) (a x : ℕ) → time_after f a ≡ Time x → (f ≡ Clear) × (x ≡ a)
-time_given Clear a x e = (refl, cc)
-time_given (At r) a x e = let z : ◌≡◌ {A = ℕ} 0 1 = cc in absurd (omega arith)
+time_given : (f : Result ⊤ Refusal) (a x : ℕ) → time_after f a ≡ Ok x → (f ≡ Ok tt) × (x ≡ a)
+time_given (Ok tt) a x e = (refl, cc)
+time_given (Err r) a x e = let z : ◌≡◌ {A = ℕ} 0 1 = cc in absurd (omega arith)
 
 -- what a question that is not refused was asked of
-set_asked : (b : List ℕ) (t s : ℕ) (d : ChannelSet) → descriptor_answer b t s ≡ described.Set d → (header_fault b ≡ Clear) × (is_set b t s ≡ true) × (d ≡ channel_set_of b (t - 1) (s - 1))
+set_asked : (b : List ℕ) (t s : ℕ) (d : ChannelSet) → descriptor_answer b t s ≡ Ok d → (header_fault b ≡ Ok tt) × (is_set b t s ≡ true) × (d ≡ channel_set_of b (t - 1) (s - 1))
 unfolding descriptor_answer
 set_asked b t s d e =
     let g = set_given (or_else (header_fault b) (when (not (is_set b t s)) Index)) (channel_set_of b (t - 1) (s - 1)) d e in
     let p = both_clear (header_fault b) (when (not (is_set b t s)) Index) g.0 in
     (p.0, was (is_set b t s) Index p.1, g.1)
 
-askable : (b sheet : List ℕ) (t k : ℕ) → place_fault b t k ≡ Clear → when (not (sheet_holds b sheet)) Sheet ≡ Clear → Askable b sheet t k
+askable : (b sheet : List ℕ) (t k : ℕ) → place_fault b t k ≡ Ok tt → when (not (sheet_holds b sheet)) Sheet ≡ Ok tt → Askable b sheet t k
 unfolding place_fault
 askable b sheet t k e h =
     let p = both_clear (header_fault b) (when (not (has_sample b t k)) Index) e in
     record { accepted = p.0; there = was (has_sample b t k) Index p.1; sheeted = was (sheet_holds b sheet) Sheet h }
 
-skew_asked : (b sheet : List ℕ) (t k SS : ℕ) → skew_answer b sheet t k ≡ Skew SS → Askable b sheet t k × (SS ≡ skew_byte b sheet (t - 1) k)
+skew_asked : (b sheet : List ℕ) (t k SS : ℕ) → skew_answer b sheet t k ≡ Ok SS → Askable b sheet t k × (SS ≡ skew_byte b sheet (t - 1) k)
 unfolding skew_answer skew_byte_fault
 skew_asked b sheet t k SS e =
     let g = skew_given (or_else (place_fault b t k) (when (not (sheet_holds b sheet)) Sheet)) (skew_byte b sheet (t - 1) k) SS e in
     let p = both_clear (place_fault b t k) (when (not (sheet_holds b sheet)) Sheet) g.0 in
     (askable b sheet t k p.0 p.1, g.1)
 
-time_asked : (b sheet : List ℕ) (t k T time : ℕ) → time_answer b sheet t k T ≡ Time time
+time_asked : (b sheet : List ℕ) (t k T time : ℕ) → time_answer b sheet t k T ≡ Ok time
     → Askable b sheet t k × (T < 2 ^ 24) × (time ≡ time_by T (skew_byte b sheet (t - 1) k) (interval_of b))
 unfolding time_answer time_fault
 time_asked b sheet t k T time e =
-    let late : Fault = when (not (ltb T (2 ^ 24))) Index in
-    let other : Fault = when (not (sheet_holds b sheet)) Sheet in
+    let late : (Result ⊤ Refusal) = when (not (ltb T (2 ^ 24))) Index in
+    let other : (Result ⊤ Refusal) = when (not (sheet_holds b sheet)) Sheet in
     let g = time_given (or_else (place_fault b t k) (or_else late other)) (time_by T (skew_byte b sheet (t - 1) k) (interval_of b)) time e in
     let p = both_clear (place_fault b t k) (or_else late other) g.0 in
     let q = both_clear late other p.1 in
@@ -151,7 +150,7 @@ cut_in r f =
       );
     }
 
-own_bytes : (b : List ℕ) → header_fault b ≡ Clear → OwnBytes b
+own_bytes : (b : List ℕ) → header_fault b ≡ Ok tt → OwnBytes b
 own_bytes b e =
     record {
       apart = words_apart b e;

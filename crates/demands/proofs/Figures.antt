@@ -1,7 +1,7 @@
 -- The one theorem of the starred figures: each follows from its definition by computing it.
 -- Assumes nothing.
+use Rattle.std.specs.Prelude.{Ok}
 use mathlib.Core.Path.{refl}
-use Rattle.layout.specs.declared.Place.TheVariants.{Sits}
 use Rattle.basis.specs.Choice.{pick, ◌and◌}
 use Rattle.basis.specs.Fields.{field}
 use Rattle.codes.specs.Codes.{table, find_in, row_of, per_in, per_of, bits_of}
@@ -16,7 +16,7 @@ use Rattle.sets.specs.Descriptors.{descriptor_place, descriptor_at, descriptor_h
 use Rattle.sets.specs.Samples.{set_samples, samples_of}
 use Rattle.sets.specs.ChannelSets.{quarters}
 use Rattle.header.specs.Faults.{size_holds, size_fault, sizes_fault, skew_holds, header_fault}
-use Rattle.layout.specs.Indexes.{passed, set_at, set_of, has_sample, spot_of, place_fault, place_answer}
+use Rattle.layout.specs.Indexes.{spot, passed, set_at, set_of, has_sample, spot_of, place_fault, place_answer}
 use Rattle.skew.specs.Times.{time_by}
 use Rattle.demands.specs.Figures.{Says, header, place, refused, starred, All, figures}
 
@@ -26,7 +26,7 @@ unfolding pick upto written table find_in row_of per_in per_of bits_of is_pair p
 accepted = (refl, refl, refl, refl, refl)
 
 -- and so its samples have their places
-placed : Says (place starred 112 (Sits 3 1 1))
+placed : Says (place starred 112 (Ok (spot 3 1 1)))
 unfolding pick upto written is_pair pair_of byte upper lower pair decimal three_digits binary pairs within descriptor_place descriptor_at set_samples samples_of ◌and◌ passed set_at set_of has_sample spot_of place_fault place_answer
 placed = rw accepted.0
 

@@ -2,6 +2,7 @@ pub mod Numbers
 pub mod Uniques
 pub mod Helds
 pub mod Bounds
+pub mod Eachs
 pub mod BoundHelds
 pub mod Owed
 pub mod Handed

@@ -2,6 +2,7 @@
 -- Assumes nothing.
 use Rattle.basis.proofs.Answers.{one_answer, one_within}
 use Rattle.parts.proofs.SliceLaws.{one_part}
+use Rattle.header.proofs.OneBlock.{one_block}
 use Rattle.demands.specs.Unique.{Unique}
 
 pub unique : Unique
@@ -19,10 +20,7 @@ unique = record {
   value24 = λ κ a z z' e e'. one_answer;
   value44 = λ κ a z z' e e'. one_answer;
   value48 = λ κ a z z' e e'. one_answer;
-  of_22 = λ κ a z z' e e'. one_answer;
-  of_42 = λ κ a z z' e e'. one_answer;
-  lent_22 = λ κ a z z' e e'. one_answer;
-  lent_42 = λ κ a z z' e e'. one_answer;
+  lent = λ κ a z z' e e'. one_answer;
   off = λ κ a z z' e e'. one_answer;
   value = λ κ a z z' e e'. one_answer;
   packed = λ κ a z z' e e'. one_answer;
@@ -44,6 +42,7 @@ unique = record {
   samples = λ κ a z z' e e'. one_within;
   channel_set = λ κ a z z' e e'. one_answer;
   header_faults = λ κ a z z' e e'. one_answer;
+  accepted_block = λ κ a z z' e e' p q. one_block _ z z' p q;
   is_set = λ κ a z z' e e'. one_answer;
   read_header = λ κ a z z' e e'. one_answer;
   descriptor = λ κ a z z' e e'. one_answer;
@@ -65,17 +64,14 @@ unique = record {
   four_at = λ κ a z z' e e'. one_answer;
   byte_words = λ κ a z z' e e'. one_within;
   byte_words_content = λ κ a z z' e e' p q. one_answer p.1 q.1;
-  words24 = λ κ a z z' e e'. one_within;
-  words24_content = λ κ a z z' e e' p q. one_answer p.1 q.1;
-  words44 = λ κ a z z' e e'. one_within;
-  words44_content = λ κ a z z' e e' p q. one_answer p.1 q.1;
-  words48 = λ κ a z z' e e'. one_within;
-  words48_content = λ κ a z z' e e' p q. one_answer p.1 q.1;
   groups15 = λ κ a z z' e e'. one_within;
   groups15_content = λ κ a z z' e e' p q. one_answer p.1 q.1;
   rest15 = λ κ a z z' e e'. one_within;
   rest15_content = λ κ a z z' e e' p q. one_answer p.1 q.1;
   body_open = λ κ a z z' e e'. one_answer;
+  shift = λ κ a z z' e e'. one_answer;
+  low = λ κ a z z' e e'. one_answer;
+  nibble = λ κ a z z' e e'. one_answer;
   portion = λ κ a z z' e e'. one_within;
   portion_content = λ κ a z z' e e' p q. one_answer p.1 q.1;
   block_end = λ κ a z z' e e'. one_answer;
@@ -90,7 +86,7 @@ unique = record {
   halted = λ κ a z z' e e'. one_answer;
   stop_of = λ κ a z z' e e'. one_answer;
   answered = λ κ a z z' e e'. one_answer;
-  unchanged = λ κ a z z' e e'. one_answer;
+  admit = λ κ a z z' e e'. one_answer;
   trace_portion = λ κ a z z' e e'. one_within;
   trace_portion_content = λ κ a z z' e e' p q. one_answer p.1 q.1;
   trace_open = λ κ a z z' e e'. one_answer;

@@ -16,6 +16,7 @@ use Rattle.parts.specs.Parts.{constants_place, constants_length, extended_place,
 use Rattle.skew.specs.Skews.{skew_fault, skew_part, skew_answer}
 use Rattle.skew.specs.Times.{time_answer}
 use Rattle.body.specs.Open.{opened}
+use Rattle.scan.specs.Step.{shift, low, nibble}
 use Rattle.stream.specs.Calls.{portion}
 use Rattle.body.specs.Ends.{block_end, close}
 use Rattle.runs.specs.Runs.{over}
@@ -49,6 +50,9 @@ use Rattle.skew.proofs.skew_at.Reads as skew-skew-at
 use Rattle.skew.proofs.sample_time.Reads as skew-sample-time
 use Rattle.view.proofs.place_in.Reads as view-place-in
 use Rattle.body.proofs.open.Reads as body_Open
+use Rattle.stream.proofs.byte.shift.Reads as stream-shift
+use Rattle.stream.proofs.byte.low.Reads as stream-low
+use Rattle.stream.proofs.byte.nibble.Reads as stream-nibble
 use Rattle.stream.proofs.portion.Reads as stream-portion
 use Rattle.body.proofs.block_end.Reads as body-block-end
 use Rattle.body.proofs.close.Reads as body_close
@@ -145,6 +149,10 @@ pub record Bound : Type 0 where
   pub skew : IsPart skew-skew.Post (λ κ a. skew_part (lent (first a)) (lent (second a)) (third a))
   pub skew_at : Is skew-skew-at.Post (λ κ a. skew_answer (first a).now (second a).now (third a) (fourth a))
   pub sample_time : Is skew-sample-time.Post (λ κ a. time_answer (first a).now (second a).now (third a) (fourth a) (fifth a))
+  -- the last four bytes of a body, a word of them, and an exponent
+  pub shift : Is stream-shift.Post (λ κ a. shift (first a) (second a))
+  pub low : Is stream-low.Post (λ κ a. low (first a) (second a))
+  pub nibble : Is stream-nibble.Post (λ κ a. nibble (first a) (second a))
   -- the body: a portion answers, and leaves in the output what it wrote over its front
   pub opens : Is body_Open.Post (λ κ a. opened (first a).now)
   pub portions : Is stream-portion.Post (λ κ a. portion (first a) (second a).now (length (third a).now))

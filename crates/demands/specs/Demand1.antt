@@ -1,10 +1,9 @@
 -- The first demand: whatever is handed in, every call ends with its answer or with the refusal that the description names. That a
 -- function meets its contract is proved where the function stands; here stand which answer that is, and what follows for all of them.
 -- Assumes nothing.
-use Rattle.std.specs.Prelude.{ℕ, ◌≡◌, true, false, List, [], ◌∷◌}
+use Rattle.std.specs.Prelude.{ℕ, ◌≡◌, true, false, List, [], ◌∷◌, Err}
 use Rattle.refusals.specs.declared.Refusal.{Refusal}
 use Rattle.refusals.specs.Table.{said, told, stop_refusal}
-use Rattle.header.specs.declared.Answer.TheVariants.{Refused}
 use Rattle.header.specs.Answers.{header_answer}
 use Rattle.scan.specs.Fit.{stopb, fitb}
 use Rattle.body.specs.Open.{opened}
@@ -17,15 +16,19 @@ use Rattle.demands.specs.Unique.{Unique}
 use Rattle.demands.specs.Held.{UniqueHeld}
 use Rattle.demands.specs.Bound.{Bound}
 use Rattle.demands.specs.BoundHeld.{BoundHeld}
+use Rattle.demands.specs.Each.{UniqueOfEach, BoundOfEach}
 
 pub record Demand1 : Type 2 where
   -- "the contract leaves one possible answer and one possible content of each lent slice", refusals included
   pub one : Unique
   -- so do the contracts of the functions over a header that is carried with its bytes, which are read at every model of the logic
   pub held : UniqueHeld
+  -- and those of the functions that are written once for many types, at each of them
+  pub each : UniqueOfEach
   -- that answer is the definition's, of which the demands speak
   pub bound : Bound
   pub bound_held : BoundHeld
+  pub bound_each : BoundOfEach
   -- "Each answers its number and the values its row names"
   pub numbers : (r : Refusal) → said r ≡ numbered r
   pub four : (r : Refusal) → told r ≡ in_four (numbered r)
@@ -35,7 +38,7 @@ pub record Demand1 : Type 2 where
   -- an unfit state is that of a refused opening, or of a demultiplexed record's
   pub unopened : TurnedAway
   pub unscanned : NoScans
-  pub shut : (b : List ℕ) (r : Refusal) → header_answer b ≡ Refused r → fitb (opened b).state ≡ false
+  pub shut : (b : List ℕ) (r : Refusal) → header_answer b ≡ Err r → fitb (opened b).state ≡ false
   -- a stop that a fit state keeps is told by its row's number, with its place
   pub told : (n place : ℕ) → stopb n ≡ true → (n ≡ 0 → ⊥) → said (stop_refusal n place) ≡ record { number = n; values = place ∷ [] }
   -- the same of a body of traces

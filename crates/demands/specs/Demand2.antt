@@ -1,13 +1,11 @@
 -- The second demand: fields, places, samples and times are the paper's, as the description reads it. What each is stands in the specs
 -- of general, sets, words, layout, parts and skew; here stand that accepted headers and words of a code are given it, and not vacuously.
 -- Assumes nothing.
-use Rattle.std.specs.Prelude.{ℕ, ◌+◌, ◌*◌, ◌-◌, ◌^◌, ◌≤◌, ◌<◌, ◌≡◌, ◌⊎◌, true, List, T, ℤ, pos, ◌+ℤ◌, length, get_or}
+use Rattle.std.specs.Prelude.{ℕ, ◌+◌, ◌*◌, ◌-◌, ◌^◌, ◌≤◌, ◌<◌, ◌≡◌, ◌⊎◌, true, List, T, ℤ, pos, ◌+ℤ◌, length, get_or, Ok, Some}
 use Rattle.std.specs.Int.Signed.{lt_z}
 use Rattle.basis.specs.Fields.{joined}
 use Rattle.values.specs.Values.{Scaled, scaled, times, Same, Less, less_test, same_test}
-use Rattle.refusals.specs.declared.Fault.TheVariants.{Clear}
 use Rattle.codes.specs.declared.Row.{Row}
-use Rattle.codes.specs.declared.Found.TheVariants.{At}
 use Rattle.codes.specs.Codes.{row_of, word_bytes_of}
 use Rattle.words.specs.Words.{spare_of, sign_in, exponent_in, fraction_in, last_in, sample_in, word_of}
 use Rattle.sets.specs.declared.ChannelSet.{ChannelSet}
@@ -16,15 +14,11 @@ use Rattle.sets.specs.Descriptors.{descriptor_place}
 use Rattle.sets.specs.Samples.{subscans_of, samples_of}
 use Rattle.general.specs.General.{code_of, bytes_per_scan, interval_of, scan_types, channel_sets, skew_fields, extended_fields, external_fields}
 use Rattle.header.specs.declared.Header.{Header}
-use Rattle.header.specs.declared.Answer.TheVariants.{Accepted}
-use Rattle.header.specs.declared.Described.TheVariants.{Set}
 use Rattle.header.specs.Faults.{header_fault}
 use Rattle.header.specs.Answers.{header_of, header_answer, is_set, descriptor_answer}
 use Rattle.layout.specs.Indexes.{has_sample}
 use Rattle.layout.specs.Inverse.{Inverse}
 use Rattle.layout.specs.Places.{word_place_of}
-use Rattle.skew.specs.declared.Skewed.TheVariants.{Skew}
-use Rattle.skew.specs.declared.Timed.TheVariants.{Time}
 use Rattle.parts.specs.Slices.{slice}
 use Rattle.parts.specs.Parts.{extended_place, external_place}
 use Rattle.skew.specs.Skews.{skew_byte, sheet_holds, skew_fault, skew_part, skew_answer}
@@ -89,38 +83,38 @@ pub record SkewBytes (b sheet : List ℕ) (p q : ℕ × ℕ) (t : ℕ) : Type 0 
 
 -- "Questions: header, 11, 12", of a sample: its header is accepted, scan type t has a sample k, and a sheet that is used has its length
 pub record Askable (b sheet : List ℕ) (t k : ℕ) : Type 0 where
-  pub accepted : header_fault b ≡ Clear
+  pub accepted : header_fault b ≡ Ok tt
   pub there : has_sample b t k ≡ true
   pub sheeted : sheet_holds b sheet ≡ true
 
 pub record Demand2 : Type 0 where
   -- a header is accepted exactly where it breaks no rule, and then has the page's fields
-  pub accepts : (b : List ℕ) → header_fault b ≡ Clear → header_answer b ≡ Accepted (header_of b)
-  pub fields : (b : List ℕ) (h : Header) → header_answer b ≡ Accepted h → (header_fault b ≡ Clear) × (h ≡ header_of b)
+  pub accepts : (b : List ℕ) → header_fault b ≡ Ok tt → header_answer b ≡ Ok (header_of b)
+  pub fields : (b : List ℕ) (h : Header) → header_answer b ≡ Ok h → (header_fault b ≡ Ok tt) × (h ≡ header_of b)
   -- a channel set is described exactly where its header is accepted and it is there, and then has the page's fields
-  pub described : (b : List ℕ) (t s : ℕ) → header_fault b ≡ Clear → is_set b t s ≡ true →
-      descriptor_answer b t s ≡ Set (channel_set_of b (t - 1) (s - 1))
-  pub sets : (b : List ℕ) (t s : ℕ) (d : ChannelSet) → descriptor_answer b t s ≡ Set d →
-      (header_fault b ≡ Clear) × (is_set b t s ≡ true) × (d ≡ channel_set_of b (t - 1) (s - 1))
+  pub described : (b : List ℕ) (t s : ℕ) → header_fault b ≡ Ok tt → is_set b t s ≡ true →
+      descriptor_answer b t s ≡ Ok (channel_set_of b (t - 1) (s - 1))
+  pub sets : (b : List ℕ) (t s : ℕ) (d : ChannelSet) → descriptor_answer b t s ≡ Ok d →
+      (header_fault b ≡ Ok tt) × (is_set b t s ≡ true) × (d ≡ channel_set_of b (t - 1) (s - 1))
   -- index and place are each the other's inverse on every block, and reach every k below S/S once
   pub places : (b : List ℕ) → Inverse b
   -- every word of a code, no wider than the code's, is the sample that its row's columns give
-  pub samples : (code c word : ℕ) (r : Row) → row_of code ≡ At r → c < 2 ^ r.apart → word < 2 ^ (r.width - r.apart) →
-      word_of code c word ≡ sample_in r c word
-  pub cut : (code : ℕ) (r : Row) → row_of code ≡ At r → Cut r
+  pub samples : (code c word : ℕ) (r : Row) → row_of code ≡ Some r → c < 2 ^ r.apart → word < 2 ^ (r.width - r.apart) →
+      word_of code c word ≡ Ok (sample_in r c word)
+  pub cut : (code : ℕ) (r : Row) → row_of code ≡ Some r → Cut r
   -- each at its own place in the scan
-  pub own : (b : List ℕ) → header_fault b ≡ Clear → OwnBytes b
+  pub own : (b : List ℕ) → header_fault b ≡ Ok tt → OwnBytes b
   pub values : Compared
   -- where a scan type's skew is not refused, the part that is handed out has its bytes
-  pub skews : (b sheet : List ℕ) (p q : ℕ × ℕ) (t : ℕ) → skew_fault b sheet t ≡ Clear → SkewBytes b sheet p q t
+  pub skews : (b sheet : List ℕ) (p q : ℕ × ℕ) (t : ℕ) → skew_fault b sheet t ≡ Ok tt → SkewBytes b sheet p q t
   -- one sample's skew byte is given exactly where it can be asked for,
-  pub skewed : (b sheet : List ℕ) (t k : ℕ) → Askable b sheet t k → skew_answer b sheet t k ≡ Skew (skew_byte b sheet (t - 1) k)
-  pub skew_bytes : (b sheet : List ℕ) (t k SS : ℕ) → skew_answer b sheet t k ≡ Skew SS →
+  pub skewed : (b sheet : List ℕ) (t k : ℕ) → Askable b sheet t k → skew_answer b sheet t k ≡ Ok (skew_byte b sheet (t - 1) k)
+  pub skew_bytes : (b sheet : List ℕ) (t k SS : ℕ) → skew_answer b sheet t k ≡ Ok SS →
       Askable b sheet t k × (SS ≡ skew_byte b sheet (t - 1) k)
   -- and a time exactly where moreover T is below 2^24: it is 16 T + SS x I
   pub timed : (b sheet : List ℕ) (t k T : ℕ) → Askable b sheet t k → T < 2 ^ 24 →
-      time_answer b sheet t k T ≡ Time (time_by T (skew_byte b sheet (t - 1) k) (interval_of b))
-  pub sample_times : (b sheet : List ℕ) (t k T time : ℕ) → time_answer b sheet t k T ≡ Time time →
+      time_answer b sheet t k T ≡ Ok (time_by T (skew_byte b sheet (t - 1) k) (interval_of b))
+  pub sample_times : (b sheet : List ℕ) (t k T time : ℕ) → time_answer b sheet t k T ≡ Ok time →
       Askable b sheet t k × (T < 2 ^ 24) × (time ≡ time_by T (skew_byte b sheet (t - 1) k) (interval_of b))
   -- the starred figures: among them a header that is accepted, and samples that have their places
   pub starred : All figures

@@ -12,18 +12,18 @@ use contract.Monad.{Fun, fact}
 use borrow.Fn.World.{World}
 use denote.Triple.Clauses.{Ended, AtExit, Clauses}
 use denote.Triple.Entry.{Args, Res}
-use Rattle.view.specs.contracts.carry as view-carry
-use Rattle.view.specs.contracts.answer_of as view-answer-of
-use Rattle.view.specs.contracts.descriptor_of as view-descriptor-of
-use Rattle.view.specs.contracts.sample_index_of as view-sample-index-of
-use Rattle.view.specs.contracts.sample_place_of as view-sample-place-of
-use Rattle.view.specs.contracts.constants_of as view-constants-of
-use Rattle.view.specs.contracts.extended_of as view-extended-of
-use Rattle.view.specs.contracts.external_of as view-external-of
-use Rattle.view.specs.contracts.skew_of as view-skew-of
-use Rattle.view.specs.contracts.skew_fault_of as view-skew-fault-of
-use Rattle.view.specs.contracts.sample_time_of as view-sample-time-of
-use Rattle.view.specs.contracts.open_of as view-open-of
+use Rattle.view.specs.contracts.Carried.carry as view-carry
+use Rattle.view.specs.contracts.Carried.answer as view-answer-of
+use Rattle.view.specs.contracts.Carried.descriptor as view-descriptor-of
+use Rattle.view.specs.contracts.Carried.sample_index as view-sample-index-of
+use Rattle.view.specs.contracts.Carried.sample_place as view-sample-place-of
+use Rattle.view.specs.contracts.Carried.constants as view-constants-of
+use Rattle.view.specs.contracts.Carried.extended as view-extended-of
+use Rattle.view.specs.contracts.Carried.external as view-external-of
+use Rattle.view.specs.contracts.Carried.skew as view-skew-of
+use Rattle.view.specs.contracts.Carried.skew_fault as view-skew-fault-of
+use Rattle.view.specs.contracts.Carried.sample_time as view-sample-time-of
+use Rattle.view.specs.contracts.Carried.open as view-open-of
 use Rattle.demands.specs.One.{same_part}
 
 -- a contract at every model

@@ -5,6 +5,7 @@ pub mod Held
 pub mod Figures
 pub mod Demand3
 pub mod Bound
+pub mod Each
 pub mod BoundHeld
 pub mod Demand1
 pub mod Demand2

@@ -11,13 +11,10 @@ use Rattle.codes.proofs.bits.Reads as codes-bits
 use Rattle.words.proofs.read_word.Reads as words-read-word
 use Rattle.words.proofs.read.Reads as words-read
 use Rattle.words.proofs.value15.Reads as words-value15
-use Rattle.words.proofs.value24.Reads as words-value24
-use Rattle.words.proofs.value44.Reads as words-value44
-use Rattle.words.proofs.value48.Reads as words-value48
-use Rattle.words.proofs.tables.of_22.Reads as words-of-22
-use Rattle.words.proofs.tables.of_42.Reads as words-of-42
-use Rattle.words.proofs.tables.lent_22.Reads as words-lent-22
-use Rattle.words.proofs.tables.lent_42.Reads as words-lent-42
+use Rattle.words.proofs.Code24Plain2.value.Reads as words-value24
+use Rattle.words.proofs.Code44Plain2.value.Reads as words-value44
+use Rattle.words.proofs.Code48Plain4.value.Reads as words-value48
+use Rattle.words.proofs.tables.lent.Reads as words-lent
 use Rattle.words.proofs.tables.off.Reads as words-off
 use Rattle.words.proofs.tables.value.Reads as words-value
 use Rattle.block.proofs.packed.Reads as block-packed
@@ -39,6 +36,7 @@ use Rattle.sets.proofs.samples_before.Reads as sets-samples-before
 use Rattle.sets.proofs.samples.Reads as sets-samples
 use Rattle.sets.proofs.channel_set.Reads as sets-channel-set
 use Rattle.header.proofs.header_fault.Reads as header-header-fault
+use Rattle.header.proofs.AcceptedBlock.of.Reads as header-of
 use Rattle.header.proofs.is_set.Reads as header-is-set
 use Rattle.header.proofs.read_header.Reads as header-read-header
 use Rattle.header.proofs.descriptor.Reads as header-descriptor
@@ -59,12 +57,12 @@ use Rattle.scan.proofs.fit.Reads as scan-fit
 use Rattle.scan.proofs.fit_by.Reads as scan-fit-by
 use Rattle.runs.proofs.four_at.Reads as runs-four-at
 use Rattle.runs.proofs.byte_words.Reads as runs-byte-words
-use Rattle.runs.proofs.words24.Reads as runs-words24
-use Rattle.runs.proofs.words44.Reads as runs-words44
-use Rattle.runs.proofs.words48.Reads as runs-words48
 use Rattle.runs.proofs.groups15.Reads as runs-groups15
 use Rattle.runs.proofs.rest15.Reads as runs-rest15
 use Rattle.body.proofs.open.Reads as body_open
+use Rattle.stream.proofs.byte.shift.Reads as stream-shift
+use Rattle.stream.proofs.byte.low.Reads as stream-low
+use Rattle.stream.proofs.byte.nibble.Reads as stream-nibble
 use Rattle.stream.proofs.portion.Reads as stream-portion
 use Rattle.body.proofs.block_end.Reads as body-block-end
 use Rattle.body.proofs.close.Reads as body_close
@@ -78,7 +76,7 @@ use Rattle.trace.proofs.look_at.Reads as trace-look-at
 use Rattle.trace.proofs.halted.Reads as trace-halted
 use Rattle.trace.proofs.stop_of.Reads as trace-stop-of
 use Rattle.trace.proofs.answered.Reads as trace-answered
-use Rattle.trace.proofs.unchanged.Reads as trace-unchanged
+use Rattle.trace.proofs.admit.Reads as trace-admit
 use Rattle.trace_stream.proofs.portion.Reads as trace-stream-portion
 use Rattle.trace_body.proofs.open.Reads as trace-body-open
 use Rattle.trace_body.proofs.block_end.Reads as trace-body-block-end
@@ -132,10 +130,7 @@ pub record Unique : Type 0 where
   pub value24 : OneAnswer words-value24.Post
   pub value44 : OneAnswer words-value44.Post
   pub value48 : OneAnswer words-value48.Post
-  pub of_22 : OneAnswer words-of-22.Post
-  pub of_42 : OneAnswer words-of-42.Post
-  pub lent_22 : OneLent words-lent-22.Post
-  pub lent_42 : OneLent words-lent-42.Post
+  pub lent : OneLent words-lent.Post
   pub off : OneAnswer words-off.Post
   pub value : OneAnswer words-value.Post
   pub packed : OneAnswer block-packed.Post
@@ -157,6 +152,7 @@ pub record Unique : Type 0 where
   pub samples : OneAnswer sets-samples.Post
   pub channel_set : OneAnswer sets-channel-set.Post
   pub header_faults : OneAnswer header-header-fault.Post
+  pub accepted_block : OneAnswer header-of.Post
   pub is_set : OneAnswer header-is-set.Post
   pub read_header : OneAnswer header-read-header.Post
   pub descriptor : OneAnswer header-descriptor.Post
@@ -178,17 +174,14 @@ pub record Unique : Type 0 where
   pub four_at : OneAnswer runs-four-at.Post
   pub byte_words : OneAnswer runs-byte-words.Post
   pub byte_words_content : OneContent runs-byte-words.Post (λ κ e. e.1.1.1.0.now)
-  pub words24 : OneAnswer runs-words24.Post
-  pub words24_content : OneContent runs-words24.Post (λ κ e. e.1.0.now)
-  pub words44 : OneAnswer runs-words44.Post
-  pub words44_content : OneContent runs-words44.Post (λ κ e. e.1.0.now)
-  pub words48 : OneAnswer runs-words48.Post
-  pub words48_content : OneContent runs-words48.Post (λ κ e. e.1.0.now)
   pub groups15 : OneAnswer runs-groups15.Post
   pub groups15_content : OneContent runs-groups15.Post (λ κ e. e.1.0.now)
   pub rest15 : OneAnswer runs-rest15.Post
   pub rest15_content : OneContent runs-rest15.Post (λ κ e. e.1.1.1.0.now)
   pub body_open : OneAnswer body_open.Post
+  pub shift : OneAnswer stream-shift.Post
+  pub low : OneAnswer stream-low.Post
+  pub nibble : OneAnswer stream-nibble.Post
   pub portion : OneAnswer stream-portion.Post
   pub portion_content : OneContent stream-portion.Post (λ κ e. e.1.1.0.now)
   pub block_end : OneAnswer body-block-end.Post
@@ -203,7 +196,7 @@ pub record Unique : Type 0 where
   pub halted : OneAnswer trace-halted.Post
   pub stop_of : OneAnswer trace-stop-of.Post
   pub answered : OneAnswer trace-answered.Post
-  pub unchanged : OneAnswer trace-unchanged.Post
+  pub admit : OneAnswer trace-admit.Post
   pub trace_portion : OneAnswer trace-stream-portion.Post
   pub trace_portion_content : OneContent trace-stream-portion.Post (λ κ e. e.1.1.1.0.now)
   pub trace_open : OneAnswer trace-body-open.Post

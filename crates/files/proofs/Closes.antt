@@ -1,5 +1,6 @@
 -- The line of a file by its closing answer: as the reader's state has it, and as the rules have it.
 -- Assumes nothing.
+use Rattle.std.specs.Prelude.{Ok, Err, Result}
 use Prim.Native.Nat.{ℕ}
 use mathlib.Core.Path.{◌≡◌, refl, sym, ap, ◌∙◌}
 use mathlib.Core.Bool.{Bool, true, false}
@@ -10,23 +11,19 @@ use Rattle.basis.specs.Choice.{pick}
 use Rattle.basis.proofs.Choices.{pick_both}
 use Rattle.refusals.specs.declared.Refusal.{Refusal}
 use Rattle.refusals.specs.declared.Refusal.TheVariants.{Long, Block, Sync, Timing, Phase, FourAt, Trace, Count}
-use Rattle.refusals.specs.declared.Fault.TheVariants.{Clear}
 use Rattle.refusals.specs.Table.{stop_refusal}
 use Rattle.header.specs.Faults.{header_fault}
 use Rattle.scan.specs.declared.State.{State}
 use Rattle.scan.specs.Fit.{fitb}
 use Rattle.rules.specs.Outcome.{Closing, refused, report}
-use Rattle.body.specs.declared.Closed.{Closed}
-use Rattle.body.specs.declared.Closed.TheVariants as C
-use Rattle.body.specs.declared.Closing as B
+use Rattle.body.specs.declared.Report.{Report}
 use Rattle.body.specs.Ends as N
 use Rattle.trace.specs.declared.State.{State as TraceState}
 use Rattle.trace.specs.Fit as F
 use Rattle.trace.specs.Answers.{stop_of}
 use Rattle.trace_body.specs.Calls as T
 use Rattle.agree.specs.Answers as G
-use Rattle.listing.specs.declared.Outcome.TheVariants as O
-use Rattle.listing.specs.Lines.{place_of, line_of}
+use Rattle.listing.specs.Lines.{turned_away, place_of, line_of}
 use Rattle.files.specs.File.{told_by}
 use Rattle.files.specs.Outcomes.{reported}
 
@@ -75,31 +72,30 @@ module _ (x y p : ℕ) where
       F : Refusal → Type 0
       F = Fixed x y
 
-refusal_in : Refusal → Closed → Refusal
-refusal_in d C.Whole = d
-refusal_in d (C.Refused r) = r
+refusal_in : Refusal → Result Report Refusal → Refusal
+refusal_in d (Ok t) = d
+refusal_in d (Err r) = r
 
-same_refusal : (r q : Refusal) → N.refused r ≡ N.refused q → r ≡ q
-unfolding N.refused refusal_in
-same_refusal r q e = ap (λ (c : B.Closing). refusal_in r c.answer) e
+same_refusal : (r q : Refusal) → ◌≡◌ {A = Result Report Refusal} (Err r) (Err q) → r ≡ q
+unfolding refusal_in
+same_refusal r q e = ap (refusal_in r) e
 
-same_line : (n : ℕ) (r : Refusal) (x y : ℕ) → place_of r x ≡ place_of r y → line_of n (O.Refused r x) ≡ line_of n (O.Refused r y)
+same_line : (n : ℕ) (r : Refusal) (x y : ℕ) → place_of r x ≡ place_of r y → line_of n (turned_away r x) ≡ line_of n (turned_away r y)
 same_line n r x y e = rw e
 
-refused_line : (n file format place : ℕ) (a : B.Closing) (r : Refusal) → a ≡ N.refused r → line_of n (told_by file format place a) ≡ line_of n (O.Refused r place)
-unfolding N.refused
-refused_line n file format place a r e = ap (λ (c : B.Closing). line_of n (told_by file format place c)) e
+refused_line : (n file format place : ℕ) (a : Result Report Refusal) (r : Refusal) → a ≡ Err r → line_of n (told_by file format place a) ≡ line_of n (turned_away r place)
+refused_line n file format place a r e = ap (λ (c : Result Report Refusal). line_of n (told_by file format place c)) e
 
 -- a closing answer a, of a body that stands at a place, is the rules' c: the lines are the same, where a stop's place is its own and a body that has not stopped
 -- stands at its length
-line_by : (n file format place bytes : ℕ) (a : B.Closing) (c : Closing) → a ≡ G.closed_of c → ((r : Refusal) → a ≡ N.refused r → place_of r place ≡ place_of r bytes)
+line_by : (n file format place bytes : ℕ) (a : Result Report Refusal) (c : Closing) → a ≡ G.closed_of c → ((r : Refusal) → a ≡ Err r → place_of r place ≡ place_of r bytes)
     → line_of n (told_by file format place a) ≡ line_of n (reported file format bytes c)
 line_by n file format place bytes a (report t) e p = rw e
 line_by n file format place bytes a (refused r) e p = refused_line n file format place a r e ∙ same_line n r place bytes (p r e)
 
 -- the place of a closing's refusal, where a stop is kept by the number `stop` and told as q
-placed : (stop place bytes : ℕ) (a : B.Closing) (q : Refusal) → (stop ≡ 0 → place ≡ bytes) → (eqb stop 0 ≡ false → a ≡ N.refused q) → Fixed place bytes q
-    → (r : Refusal) → a ≡ N.refused r → place_of r place ≡ place_of r bytes
+placed : (stop place bytes : ℕ) (a : Result Report Refusal) (q : Refusal) → (stop ≡ 0 → place ≡ bytes) → (eqb stop 0 ≡ false → a ≡ Err q) → Fixed place bytes q
+    → (r : Refusal) → a ≡ Err r → place_of r place ≡ place_of r bytes
 placed stop place bytes a q p u f r e = go (eqb stop 0) refl
   where
     go : (t : Bool) → eqb stop 0 ≡ t → place_of r place ≡ place_of r bytes
@@ -119,7 +115,7 @@ trace_stop : (b : List ℕ) (s : TraceState) (x y : ℕ) → Fixed x y (stop_of 
 unfolding stop_of
 trace_stop b s x y = pick_both (Fixed x y) _ (four x y s.stopat _ _) (stop_place x y s.stopat s.stop)
 
-pub traces_line : (n file format : ℕ) (b : List ℕ) (s : TraceState) (bytes : ℕ) (c : Closing) → header_fault b ≡ Clear → T.close b s ≡ G.closed_of c → F.fitb b s ≡ true
+pub traces_line : (n file format : ℕ) (b : List ℕ) (s : TraceState) (bytes : ℕ) (c : Closing) → header_fault b ≡ Ok tt → T.close b s ≡ G.closed_of c → F.fitb b s ≡ true
     → (s.stop ≡ 0 → s.place ≡ bytes) → line_of n (told_by file format s.place (T.close b s)) ≡ line_of n (reported file format bytes c)
 unfolding T.close T.finish pick
 traces_line n file format b s bytes c h e f p =

@@ -1,5 +1,6 @@
 -- The state of a file in closed form: by the items that it has, and the bytes of the item that is open.
 -- Assumes nothing.
+use Rattle.std.specs.Prelude.{Err, Ok, Result, Some}
 use Prim.Native.Nat.{ℕ, ◌+◌, ◌*◌, ◌/◌, ◌≤◌, ◌<◌}
 use mathlib.Core.Path.{◌≡◌, refl, sym, ap, ◌∙◌, subst}
 use mathlib.Core.Bool.{Bool, true, false}
@@ -14,8 +15,6 @@ use Rattle.basis.specs.Choice.{pick}
 use Rattle.refusals.specs.declared.Refusal.TheVariants as R
 use Rattle.general.specs.General.{code_of}
 use Rattle.header.specs.declared.Header.{Header}
-use Rattle.header.specs.declared.Answer.{Answer}
-use Rattle.header.specs.declared.Answer.TheVariants as H
 use Rattle.header.specs.Answers.{header_answer}
 use Rattle.scan.specs.declared.State.{State}
 use Rattle.scan.specs.Step.{after}
@@ -28,14 +27,13 @@ use Rattle.trace_rules.specs.Outcome as TR
 use Rattle.trace.specs.declared.State.{State as TraceState}
 use Rattle.trace.specs.Step as TS
 use Rattle.trace_body.specs.Open as T
-use Rattle.listing.specs.declared.Outcome.{Outcome}
-use Rattle.listing.specs.declared.Outcome.TheVariants as O
-use Rattle.listing.specs.Lines.{line_of}
+use Rattle.listing.specs.declared.Listed.{Listed}
+use Rattle.listing.specs.declared.TurnedAway.{TurnedAway}
+use Rattle.listing.specs.Lines.{turned_away, line_of}
 use Rattle.files.specs.declared.File.{File}
-use Rattle.files.specs.declared.File.TheVariants.{Empty, Heading, Large, Refused, Blocks, Traces}
-use Rattle.files.specs.declared.AtMark.TheVariants.{Line}
+use Rattle.files.specs.declared.File.TheVariants.{Empty, Heading, Large, Refused}
 use Rattle.files.specs.Outcomes.{body_in, reported, by_header, outcome_of}
-use Rattle.files.specs.File.{part_of, buffer_after, item_end, headed_by, closed_of, traces_closed, traces_at, said_of}
+use Rattle.files.specs.File.{of_scans, of_traces, part_of, buffer_after, item_end, headed_by, closed_of, traces_closed, traces_at, said_of}
 use Rattle.scan.proofs.Fold.{after_append}
 use Rattle.stream.proofs.Cuts.{portion_state}
 use Rattle.files.proofs.Items.{Items}
@@ -45,6 +43,7 @@ use Rattle.files.proofs.TracePlaces.{traces_place}
 use Rattle.files.proofs.Closes.{scans_line, traces_line}
 use Rattle.files.proofs.Scans as S
 use Rattle.files.proofs.Traces as Tr
+use Rattle.refusals.specs.declared.Refusal.{Refusal}
 
 -- after the header item h and some blocks, of a file of scans and of one of traces
 abbrev scans_after : List ℕ → List (List ℕ) → State
@@ -52,11 +51,11 @@ scans_after h = state_after after S.ends (opened h).state
 
 abbrev traces_in : Header → List ℕ → List (List ℕ) → List ℕ → File
 traces_in x h blocks have =
-    Traces x.file x.code (length h) (TS.after h (Tr.traces_after h blocks) have) (traces_closed x.file x.code h (Tr.traces_after h blocks))
+    of_traces x.file x.code (length h) (TS.after h (Tr.traces_after h blocks) have) (traces_closed x.file x.code h (Tr.traces_after h blocks))
 
-abbrev bodied : Answer → List ℕ → List (List ℕ) → List ℕ → File
-bodied (H.Refused r) h blocks have = Refused r
-bodied (H.Accepted x) h blocks have = pick (leb 0x8000 x.code) (traces_in x h blocks have) (Blocks x.file x.code (after (scans_after h blocks) have))
+abbrev bodied : Result Header Refusal → List ℕ → List (List ℕ) → List ℕ → File
+bodied (Err r) h blocks have = Refused r
+bodied (Ok x) h blocks have = pick (leb 0x8000 x.code) (traces_in x h blocks have) (of_scans x.file x.code (after (scans_after h blocks) have))
 
 abbrev pub file_at : ℕ → List (List ℕ) → List ℕ → File
 file_at cap [] [] = Empty
@@ -72,20 +71,20 @@ abbrev pub Kept : List ℕ → List ℕ → Type 0
 Kept header item = length item ≤ length header → take (length item) header ≡ item
 
 -- an accepted header's code says of which kind the body is
-is_low : (h : List ℕ) (x : Header) → header_answer h ≡ H.Accepted x → leb 0x8000 x.code ≡ false → code_of h < 0x8000
+is_low : (h : List ℕ) (x : Header) → header_answer h ≡ Ok x → leb 0x8000 x.code ≡ false → code_of h < 0x8000
 is_low h x e l = subst (λ (n : ℕ). n < 0x8000) (code_is h x e) (leb-false 0x8000 x.code l)
 
-is_high : (h : List ℕ) (x : Header) → header_answer h ≡ H.Accepted x → leb 0x8000 x.code ≡ true → 0x8000 ≤ code_of h
+is_high : (h : List ℕ) (x : Header) → header_answer h ≡ Ok x → leb 0x8000 x.code ≡ true → 0x8000 ≤ code_of h
 is_high h x e l = subst (λ (n : ℕ). 0x8000 ≤ n) (code_is h x e) (leb-true 0x8000 x.code l)
 
 -- ---- some bytes of an item, with room for their numbers
-module _ (header : List ℕ) (numbers : List ℤ) (h : List ℕ) (blocks : List (List ℕ)) (have : List ℕ) (y : ℕ) (ys : List ℕ) (x : Header) (e : header_answer h ≡ H.Accepted x) (room : 2 * length (y ∷ ys) ≤ length numbers) where
+module _ (header : List ℕ) (numbers : List ℤ) (h : List ℕ) (blocks : List (List ℕ)) (have : List ℕ) (y : ℕ) (ys : List ℕ) (x : Header) (e : header_answer h ≡ Ok x) (room : 2 * length (y ∷ ys) ≤ length numbers) where
   part_scans : Items (h ∷ blocks) → leb 0x8000 x.code ≡ false
-      → part_of (Blocks x.file x.code (after (scans_after h blocks) have)) (y ∷ ys) header numbers ≡ Blocks x.file x.code (after (scans_after h blocks) (have ++ (y ∷ ys)))
+      → part_of (of_scans x.file x.code (after (scans_after h blocks) have)) (y ∷ ys) header numbers ≡ of_scans x.file x.code (after (scans_after h blocks) (have ++ (y ∷ ys)))
   part_scans ok l =
       let s = scans_after h blocks in
       let f = S.after_fit s have (S.blocks_fit (opened h).state blocks (S.open_fit h x ok.0 e (is_low h x e l))) in
-      ap (Blocks x.file x.code) (portion_state (after s have) (y ∷ ys) (length numbers) room f ∙ sym (after_append s have (y ∷ ys)))
+      ap (of_scans x.file x.code) (portion_state (after s have) (y ∷ ys) (length numbers) room f ∙ sym (after_append s have (y ∷ ys)))
 
   part_traces : take (length h) header ≡ h → leb 0x8000 x.code ≡ true → part_of (traces_in x h blocks have) (y ∷ ys) header numbers ≡ traces_in x h blocks (have ++ (y ∷ ys))
   part_traces kept l =
@@ -93,7 +92,7 @@ module _ (header : List ℕ) (numbers : List ℤ) (h : List ℕ) (blocks : List 
       let s = Tr.traces_after h blocks in
       let f = Tr.after_fit h clear s have (Tr.traces_fit h clear (is_high h x e l) blocks) in
       rw kept
-      (ap (λ (t : TraceState). Traces x.file x.code (length h) t (traces_closed x.file x.code h s))
+      (ap (λ (t : TraceState). of_traces x.file x.code (length h) t (traces_closed x.file x.code h s))
       (Tr.portion_moves h clear (TS.after h s have) (y ∷ ys) (length numbers) room f ∙ sym (Tr.after_append h s have (y ∷ ys))))
 
 pub part_form : (header : List ℕ) (numbers : List ℤ) (items : List (List ℕ)) (have : List ℕ) (y : ℕ) (ys : List ℕ) → Items items → length (y ∷ ys) ≤ length numbers / 2
@@ -115,16 +114,16 @@ part_form header numbers (h ∷ blocks) have y ys ok room kept = go (leb (length
     roomy : 2 * length (y ∷ ys) ≤ length numbers
     roomy = omega (arith, room)
 
-    by : (x : Header) → header_answer h ≡ H.Accepted x → length h ≤ length header → (k : Bool) → leb 0x8000 x.code ≡ k
-        → part_of (pick k (traces_in x h blocks have) (Blocks x.file x.code (after (scans_after h blocks) have))) (y ∷ ys) header numbers
-        ≡ pick k (traces_in x h blocks (have ++ (y ∷ ys))) (Blocks x.file x.code (after (scans_after h blocks) (have ++ (y ∷ ys))))
+    by : (x : Header) → header_answer h ≡ Ok x → length h ≤ length header → (k : Bool) → leb 0x8000 x.code ≡ k
+        → part_of (pick k (traces_in x h blocks have) (of_scans x.file x.code (after (scans_after h blocks) have))) (y ∷ ys) header numbers
+        ≡ pick k (traces_in x h blocks (have ++ (y ∷ ys))) (of_scans x.file x.code (after (scans_after h blocks) (have ++ (y ∷ ys))))
     by x e l true q = part_traces header numbers h blocks have y ys x e roomy (kept l) q
     by x e l false q = part_scans header numbers h blocks have y ys x e roomy ok q
 
-    go : (t : Bool) → leb (length h) (length header) ≡ t → (d : Answer) → header_answer h ≡ d
+    go : (t : Bool) → leb (length h) (length header) ≡ t → (d : Result Header Refusal) → header_answer h ≡ d
         → part_of (pick t (bodied d h blocks have) Large) (y ∷ ys) header numbers ≡ pick t (bodied d h blocks (have ++ (y ∷ ys))) Large
-    go true l (H.Refused r) e = refl
-    go true l (H.Accepted x) e = by x e (leb-true (length h) (length header) l) (leb 0x8000 x.code) refl
+    go true l (Err r) e = refl
+    go true l (Ok x) e = by x e (leb-true (length h) (length header) l) (leb 0x8000 x.code) refl
     go false l d e = refl
 
 -- the buffer is left alone once the header item has ended
@@ -132,13 +131,13 @@ pub buffer_stays : (cap : ℕ) (h : List ℕ) (blocks : List (List ℕ)) (have b
 unfolding pick
 buffer_stays cap h blocks have bytes header = go (leb (length h) cap) (header_answer h)
   where
-    by : (x : Header) (k : Bool) → buffer_after (pick k (traces_in x h blocks have) (Blocks x.file x.code (after (scans_after h blocks) have))) bytes header ≡ header
+    by : (x : Header) (k : Bool) → buffer_after (pick k (traces_in x h blocks have) (of_scans x.file x.code (after (scans_after h blocks) have))) bytes header ≡ header
     by x true = refl
     by x false = refl
 
-    go : (t : Bool) (d : Answer) → buffer_after (pick t (bodied d h blocks have) Large) bytes header ≡ header
-    go true (H.Refused r) = refl
-    go true (H.Accepted x) = by x (leb 0x8000 x.code)
+    go : (t : Bool) (d : Result Header Refusal) → buffer_after (pick t (bodied d h blocks have) Large) bytes header ≡ header
+    go true (Err r) = refl
+    go true (Ok x) = by x (leb 0x8000 x.code)
     go false d = refl
 
 -- ---- the end of an item; the buffer has a header item that fits
@@ -148,16 +147,16 @@ unfolding pick
 end_form header [] x xs kept = go (leb (length (x ∷ xs)) (length header)) refl
   where
     by : (h : Header) (k : Bool)
-        → pick k (traces_at h.file h.code (length (x ∷ xs)) (x ∷ xs) (T.opened (x ∷ xs))) (Blocks h.file h.code (opened (x ∷ xs)).state)
-        ≡ pick k (traces_in h (x ∷ xs) [] []) (Blocks h.file h.code (after (scans_after (x ∷ xs) []) []))
+        → pick k (traces_at h.file h.code (length (x ∷ xs)) (x ∷ xs) (T.opened (x ∷ xs))) (of_scans h.file h.code (opened (x ∷ xs)).state)
+        ≡ pick k (traces_in h (x ∷ xs) [] []) (of_scans h.file h.code (after (scans_after (x ∷ xs) []) []))
     by h true =
-        ap (λ (s : TraceState). Traces h.file h.code (length (x ∷ xs)) s (traces_closed h.file h.code (x ∷ xs) (T.opened (x ∷ xs))))
+        ap (λ (s : TraceState). of_traces h.file h.code (length (x ∷ xs)) s (traces_closed h.file h.code (x ∷ xs) (T.opened (x ∷ xs))))
         (sym (Tr.after_none (x ∷ xs) (T.opened (x ∷ xs))))
-    by h false = ap (Blocks h.file h.code) (sym (S.after_none (opened (x ∷ xs)).state))
+    by h false = ap (of_scans h.file h.code) (sym (S.after_none (opened (x ∷ xs)).state))
 
-    empty : (d : Answer) → headed_by d (x ∷ xs) ≡ bodied d (x ∷ xs) [] []
-    empty (H.Refused r) = refl
-    empty (H.Accepted h) = by h (leb 0x8000 h.code)
+    empty : (d : Result Header Refusal) → headed_by d (x ∷ xs) ≡ bodied d (x ∷ xs) [] []
+    empty (Err r) = refl
+    empty (Ok h) = by h (leb 0x8000 h.code)
 
     go : (t : Bool) → leb (length (x ∷ xs)) (length header) ≡ t
         → item_end (pick t (Heading (length (x ∷ xs))) Large) header ≡ pick t (bodied (header_answer (x ∷ xs)) (x ∷ xs) [] []) Large
@@ -173,37 +172,37 @@ end_form header (h ∷ blocks) x xs kept = go (leb (length h) (length header)) r
         sym (body_snoc (TS.after h) (Tr.ends h) (T.opened h) blocks (x ∷ xs)) in
         rw q
         (ap (λ (t : TraceState). traces_at a.file a.code (length h) h t) s
-        ∙ ap (λ (t : TraceState). Traces a.file a.code (length h) t (traces_closed a.file a.code h (Tr.traces_after h (blocks ++ ((x ∷ xs) ∷ [])))))
+        ∙ ap (λ (t : TraceState). of_traces a.file a.code (length h) t (traces_closed a.file a.code h (Tr.traces_after h (blocks ++ ((x ∷ xs) ∷ [])))))
         (sym (Tr.after_none h (Tr.traces_after h (blocks ++ ((x ∷ xs) ∷ []))))))
 
     by : (a : Header) → length h ≤ length header → (k : Bool)
-        → item_end (pick k (traces_in a h blocks (x ∷ xs)) (Blocks a.file a.code (after (scans_after h blocks) (x ∷ xs)))) header
-        ≡ pick k (traces_in a h (blocks ++ ((x ∷ xs) ∷ [])) []) (Blocks a.file a.code (after (scans_after h (blocks ++ ((x ∷ xs) ∷ []))) []))
+        → item_end (pick k (traces_in a h blocks (x ∷ xs)) (of_scans a.file a.code (after (scans_after h blocks) (x ∷ xs)))) header
+        ≡ pick k (traces_in a h (blocks ++ ((x ∷ xs) ∷ [])) []) (of_scans a.file a.code (after (scans_after h (blocks ++ ((x ∷ xs) ∷ []))) []))
     by a l true = after_all a (kept l)
-    by a l false = ap (Blocks a.file a.code) (sym (S.after_none _ ∙ body_snoc after S.ends (opened h).state blocks (x ∷ xs)))
+    by a l false = ap (of_scans a.file a.code) (sym (S.after_none _ ∙ body_snoc after S.ends (opened h).state blocks (x ∷ xs)))
 
-    go : (t : Bool) → leb (length h) (length header) ≡ t → (d : Answer)
+    go : (t : Bool) → leb (length h) (length header) ≡ t → (d : Result Header Refusal)
         → item_end (pick t (bodied d h blocks (x ∷ xs)) Large) header ≡ pick t (bodied d h (blocks ++ ((x ∷ xs) ∷ [])) []) Large
-    go true l (H.Refused r) = refl
-    go true l (H.Accepted a) = by a (leb-true (length h) (length header) l) (leb 0x8000 a.code)
+    go true l (Err r) = refl
+    go true l (Ok a) = by a (leb-true (length h) (length header) l) (leb 0x8000 a.code)
     go false l d = refl
 
 -- ---- what is said at the mark
 -- a line, whose text is that of an outcome
-pub record Says (f : File) (o : Outcome) : Type 0 where
-  pub given : Outcome
-  pub said : said_of f ≡ Line given
+pub record Says (f : File) (o : Result Listed TurnedAway) : Type 0 where
+  pub given : Result Listed TurnedAway
+  pub said : said_of f ≡ Some given
   pub line : (n : ℕ) → line_of n given ≡ line_of n o
 
-module _ (h : List ℕ) (blocks : List (List ℕ)) (ok : Items (h ∷ blocks)) (a : Header) (e : header_answer h ≡ H.Accepted a) where
+module _ (h : List ℕ) (blocks : List (List ℕ)) (ok : Items (h ∷ blocks)) (a : Header) (e : header_answer h ≡ Ok a) where
   says_scans : leb 0x8000 a.code ≡ false
-      → Says (Blocks a.file a.code (after (scans_after h blocks) [])) (reported a.file a.code (length (joined blocks)) (closing (shape_of h) (body_in blocks)))
+      → Says (of_scans a.file a.code (after (scans_after h blocks) [])) (reported a.file a.code (length (joined blocks)) (closing (shape_of h) (body_in blocks)))
   says_scans l =
       let s = scans_after h blocks in
       let m = is_low h a e l in
       record {
         given = closed_of a.file a.code s;
-        said = ap (λ (x : State). Line (closed_of a.file a.code x)) (S.after_none s);
+        said = ap (λ (x : State). Some (closed_of a.file a.code x)) (S.after_none s);
         line = λ n. scans_line n a.file a.code s (length (joined blocks)) (closing (shape_of h) (body_in blocks)) (S.closes h a ok.0 e m blocks ok.1)
             (S.blocks_fit (opened h).state blocks (S.open_fit h a ok.0 e m)) (scans_place h a e m blocks);
       }
@@ -226,13 +225,13 @@ pub says : (cap : ℕ) (h : List ℕ) (blocks : List (List ℕ)) → Items (h �
 unfolding pick
 says cap h blocks ok = go (leb (length h) cap) (header_answer h) refl
   where
-    by : (a : Header) → header_answer h ≡ H.Accepted a → (k : Bool) → leb 0x8000 a.code ≡ k
-        → Says (pick k (traces_in a h blocks []) (Blocks a.file a.code (after (scans_after h blocks) [])))
+    by : (a : Header) → header_answer h ≡ Ok a → (k : Bool) → leb 0x8000 a.code ≡ k
+        → Says (pick k (traces_in a h blocks []) (of_scans a.file a.code (after (scans_after h blocks) [])))
         (reported a.file a.code (length (joined blocks)) (pick k (TR.closing h (body_in blocks)) (closing (shape_of h) (body_in blocks))))
     by a e true l = says_traces h blocks ok a e l
     by a e false l = says_scans h blocks ok a e l
 
-    go : (t : Bool) (d : Answer) → header_answer h ≡ d → Says (pick t (bodied d h blocks []) Large) (pick t (by_header d h blocks) (O.Refused R.Large 0))
-    go true (H.Refused r) e = record { given = O.Refused r 0; said = refl; line = λ n. refl }
-    go true (H.Accepted a) e = by a e (leb 0x8000 a.code) refl
-    go false d e = record { given = O.Refused R.Large 0; said = refl; line = λ n. refl }
+    go : (t : Bool) (d : Result Header Refusal) → header_answer h ≡ d → Says (pick t (bodied d h blocks []) Large) (pick t (by_header d h blocks) (turned_away R.Large 0))
+    go true (Err r) e = record { given = turned_away r 0; said = refl; line = λ n. refl }
+    go true (Ok a) e = by a e (leb 0x8000 a.code) refl
+    go false d e = record { given = turned_away R.Large 0; said = refl; line = λ n. refl }

@@ -1,5 +1,6 @@
 -- Where a body of scans stands that has not stopped: as many bytes on as it was given.
 -- Assumes nothing.
+use Rattle.std.specs.Prelude.{Ok}
 use Prim.Native.Nat.{ℕ, ◌+◌, ◌<◌}
 use mathlib.Core.Path.{◌≡◌, refl}
 use mathlib.Core.Bool.{false}
@@ -16,7 +17,6 @@ use Rattle.scan.specs.Step.{still, halted, halt, moved, moved_by, quiet, sync, s
 use Rattle.words.specs.declared.Value.{Value}
 use Rattle.scan.proofs.Choices.{pick_cases}
 use Rattle.header.specs.declared.Header.{Header}
-use Rattle.header.specs.declared.Answer.TheVariants.{Accepted}
 use Rattle.stream.specs.declared.Gave.{Gave}
 use Rattle.body.specs.Open.{opened, fresh}
 use Rattle.body.proofs.Opens.{opens_scans}
@@ -29,7 +29,7 @@ use Rattle.files.proofs.Blocks.{state_after, body_place}
 use Rattle.files.proofs.Scans.{ends}
 
 -- unless it stops, one byte on
-abbrev On : State → Stepped → Type 0
+abbrev On : State → Stepped State → Type 0
 On s r = r.state.stop ≡ 0 → (r.state.place ≡ s.place + 1) × (s.stop ≡ 0)
 
 on_moved : (s : State) (k : Track) (e off b : ℕ) → On s (still (moved s k e off b))
@@ -88,15 +88,15 @@ unfolding block_end ended unchanged one_end halted
 end_place s =
     pick_both At _ (pick_both At _ (pick_both At _ (λ z. (refl, z)) (λ z. absurd (omega arith))) (λ z. (refl, z))) (λ z. (refl, z))
   where
-    At : Gave → Type 0
+    At : Gave State → Type 0
     At g = g.state.stop ≡ 0 → (g.state.place ≡ s.place) × (s.stop ≡ 0)
 
-fresh_place : (b : List ℕ) (h : Header) → header_answer b ≡ Accepted h → code_of b < 0x8000 → (opened b).state.place ≡ 0
+fresh_place : (b : List ℕ) (h : Header) → header_answer b ≡ Ok h → code_of b < 0x8000 → (opened b).state.place ≡ 0
 unfolding fresh
 fresh_place b h e m = rw (opens_scans b h e m)
 
 -- from the opening, as many as the blocks have
-pub scans_place : (b : List ℕ) (h : Header) → header_answer b ≡ Accepted h → code_of b < 0x8000 → (blocks : List (List ℕ))
+pub scans_place : (b : List ℕ) (h : Header) → header_answer b ≡ Ok h → code_of b < 0x8000 → (blocks : List (List ℕ))
     → (state_after after ends (opened b).state blocks).stop ≡ 0 → (state_after after ends (opened b).state blocks).place ≡ length (joined blocks)
 scans_place b h e m blocks z =
     let start : (opened b).state.place ≡ 0 = fresh_place b h e m in

@@ -1,5 +1,6 @@
 -- What the reader of scans gives a file: every state reached is fit, a portion's numbers have room, and the closing answer is the rules'.
 -- Assumes nothing.
+use Rattle.std.specs.Prelude.{Ok}
 use Prim.Native.Nat.{ℕ, ◌*◌, ◌≤◌, ◌<◌}
 use mathlib.Core.Path.{◌≡◌, refl, sym, ap, ◌∙◌}
 use mathlib.Core.Bool.{true}
@@ -11,7 +12,6 @@ use lib.IntN.{ℤ}
 use lib.ListN.{length, length-append, length-drop}
 use Rattle.general.specs.General.{code_of}
 use Rattle.header.specs.declared.Header.{Header}
-use Rattle.header.specs.declared.Answer.TheVariants.{Accepted}
 use Rattle.header.specs.Answers.{header_answer}
 use Rattle.scan.specs.declared.State.{State}
 use Rattle.scan.specs.Step.{after}
@@ -37,7 +37,7 @@ use Rattle.files.proofs.Items.{Items}
 use Rattle.files.proofs.Blocks.{state_after, body_fit, calls_of, calls_bytes, calls_spell}
 
 -- an accepted header of a multiplexed code opens a fit state
-pub open_fit : (b : List ℕ) (h : Header) → Bytes b → header_answer b ≡ Accepted h → code_of b < 0x8000 → fitb (opened b).state ≡ true
+pub open_fit : (b : List ℕ) (h : Header) → Bytes b → header_answer b ≡ Ok h → code_of b < 0x8000 → fitb (opened b).state ≡ true
 open_fit b h bytes e m = (agreement b bytes h e m [] tt).fit
 
 pub after_fit : (s : State) (bs : List ℕ) → fitb s ≡ true → fitb (after s bs) ≡ true
@@ -83,7 +83,7 @@ pub blocks_fit : (s : State) (blocks : List (List ℕ)) → fitb s ≡ true → 
 blocks_fit = body_fit after ends fitb after_fit end_fit
 
 -- the closing answer after some blocks
-pub closes : (b : List ℕ) (h : Header) → Bytes b → header_answer b ≡ Accepted h → code_of b < 0x8000 → (xs : List (List ℕ)) → Items xs
+pub closes : (b : List ℕ) (h : Header) → Bytes b → header_answer b ≡ Ok h → code_of b < 0x8000 → (xs : List (List ℕ)) → Items xs
     → close (state_after after ends (opened b).state xs) ≡ closed_of (closing (shape_of b) (body_in xs))
 closes b h bytes e m xs p =
     ap close (sym (reach (opened b).state [] xs (open_fit b h bytes e m)))

@@ -1,5 +1,6 @@
 -- Where a body of traces stands that has not stopped: as many bytes on as it was given.
 -- Assumes nothing.
+use Rattle.std.specs.Prelude.{Err, Ok, Result, ⊤}
 use Prim.Native.Nat.{ℕ, ◌+◌, ◌<◌}
 use mathlib.Core.Path.{◌≡◌, refl}
 use mathlib.Core.Bool.{false}
@@ -10,27 +11,27 @@ use lib.Dec.{eqb}
 use lib.ListN.{length}
 use Rattle.basis.proofs.Choices.{pick_both}
 use Rattle.scan.proofs.Choices.{pick_cases}
-use Rattle.refusals.specs.declared.Fault.{Fault}
-use Rattle.refusals.specs.declared.Fault.TheVariants.{Clear, At}
 use Rattle.general.specs.General.{code_of}
 use Rattle.header.specs.Faults.{header_fault}
 use Rattle.framing.specs.Cuts.{joined}
 use Rattle.words.specs.declared.Value.{Value}
 use Rattle.trace.specs.declared.State.{State}
-use Rattle.trace.specs.declared.Stepped.{Stepped}
+use Rattle.scan.specs.declared.Stepped.{Stepped}
 use Rattle.trace.specs.declared.Look.{Look}
-use Rattle.trace.specs.declared.Gave.{Gave}
+use Rattle.stream.specs.declared.Gave.{Gave}
 use Rattle.trace.specs.Step.{still, halted, halt, moved_by, moved, quiet, headed, sample, plain, grouped, word, step, step_on, after}
 use Rattle.trace.specs.Fit.{fitb}
-use Rattle.trace.specs.Answers.{unchanged, checked}
+use Rattle.stream.specs.Calls.{unchanged}
+use Rattle.trace.specs.Answers.{checked}
 use Rattle.trace_body.specs.Ends.{one_end, tally, ended, end_on}
 use Rattle.trace_body.specs.Calls.{end_gave, block_end}
 use Rattle.trace_body.specs.Open.{fresh, opened_on, opened}
 use Rattle.files.proofs.Blocks.{body_place}
 use Rattle.files.proofs.Traces.{ends, traces_after}
+use Rattle.refusals.specs.declared.Refusal.{Refusal}
 
 -- unless it stops, one byte on
-abbrev On : State → Stepped → Type 0
+abbrev On : State → Stepped State → Type 0
 On s r = r.state.stop ≡ 0 → (r.state.place ≡ s.place + 1) × (s.stop ≡ 0)
 
 on_moved : (s : State) (n off e x : ℕ) → On s (still (moved s n off e x))
@@ -98,17 +99,17 @@ module _ (b : List ℕ) where
   unfolding block_end end_gave unchanged
   end_place s = go (header_fault b)
     where
-      go : (f : Fault) → At₀ s (checked f (fitb b s) s (end_gave b s)).state
-      go (At r) = λ z. (refl, z)
-      go Clear = pick_both (λ (g : Gave). At₀ s g.state) _ (end_on_lem s) (λ z. (refl, z))
+      go : (f : Result ⊤ Refusal) → At₀ s (checked f (fitb b s) s (end_gave b s)).state
+      go (Err r) = λ z. (refl, z)
+      go (Ok tt) = pick_both (λ (g : Gave State). At₀ s g.state) _ (end_on_lem s) (λ z. (refl, z))
 
   fresh_place : (opened b).place ≡ 0
   unfolding opened fresh
   fresh_place = go (header_fault b)
     where
-      go : (f : Fault) → (opened_on f (code_of b)).place ≡ 0
-      go (At r) = refl
-      go Clear = refl
+      go : (f : Result ⊤ Refusal) → (opened_on f (code_of b)).place ≡ 0
+      go (Err r) = refl
+      go (Ok tt) = refl
 
   -- from the opening, as many as the blocks have
   pub traces_place : (blocks : List (List ℕ)) → (traces_after b blocks).stop ≡ 0 → (traces_after b blocks).place ≡ length (joined blocks)

@@ -1,6 +1,7 @@
 -- What the reader of traces gives a file, its header block lent at every call: every state reached is fit, a portion's numbers have room, and the
 -- closing answer is the rules'.
 -- Assumes nothing.
+use Rattle.std.specs.Prelude.{Err, Ok, Result, ⊤, Option, Some, None}
 use Prim.Native.Nat.{ℕ, ◌*◌, ◌≤◌}
 use mathlib.Core.Path.{◌≡◌, refl, sym, ap, ◌∙◌}
 use mathlib.Core.Bool.{true}
@@ -12,15 +13,15 @@ use Rattle.scan.proofs.Choices.{pick_cases}
 use lib.Dec.{ltb}
 use lib.IntN.{ℤ}
 use lib.ListN.{length, length-append}
-use Rattle.refusals.specs.declared.Fault.{Fault}
-use Rattle.refusals.specs.declared.Fault.TheVariants.{Clear, At}
 use Rattle.general.specs.General.{code_of}
 use Rattle.header.specs.Faults.{header_fault}
 use Rattle.rules.specs.Tape.{Body}
 use Rattle.trace_rules.specs.Outcome.{closing}
 use Rattle.trace.specs.declared.State.{State}
 use Rattle.runs.specs.Runs.{over}
-use Rattle.trace.specs.Step.{step_on, after, m_and_x, wrote}
+use Rattle.words.specs.declared.Value.{Value}
+use Rattle.scan.specs.Step.{m_then_x, m_and_x}
+use Rattle.trace.specs.Step.{step_on, after, wrote}
 use Rattle.trace.specs.Fit.{fitb}
 use Rattle.trace_stream.specs.Calls.{portion, fit_wrote, checked_wrote, portion_wrote}
 use Rattle.trace_body.specs.Calls.{block_end, close}
@@ -35,6 +36,7 @@ use Rattle.files.specs.Outcomes.{body_in}
 use Rattle.files.proofs.Items.{Items}
 use Rattle.files.proofs.Scans.{over_length}
 use Rattle.files.proofs.Blocks.{state_after, body_fit, calls_of, calls_bytes, calls_spell}
+use Rattle.refusals.specs.declared.Refusal.{Refusal}
 
 pub after_append : (b : List ℕ) (s : State) (xs ys : List ℕ) → after b s (xs ++ ys) ≡ after b (after b s xs) ys
 unfolding after
@@ -46,9 +48,13 @@ unfolding after
 after_none b s = refl
 
 -- ---- what a portion writes is within the output
+two_at_most : (v : Option Value) → length (m_then_x v) ≤ 2
+two_at_most None = omega arith
+two_at_most (Some v) = omega arith
+
 step_wrote : (b : List ℕ) (s : State) (x : ℕ) → length (m_and_x (step_on b s x)) ≤ 2
 unfolding m_and_x
-step_wrote b s x = pick_both (λ (l : List ℤ). length l ≤ 2) _ (omega arith) (omega arith)
+step_wrote b s x = two_at_most (step_on b s x).value
 
 wrote_length : (b : List ℕ) (s : State) (bs : List ℕ) → length (wrote b s bs) ≤ 2 * length bs
 unfolding wrote
@@ -62,9 +68,9 @@ wrote_few b s bs room = go (header_fault b)
     P : List ℤ → Type 0
     P l = length l ≤ room
 
-    go : (f : Fault) → P (checked_wrote f (fitb b s) (fit_wrote b s bs room))
-    go (At r) = omega arith
-    go Clear =
+    go : (f : Result ⊤ Refusal) → P (checked_wrote f (fitb b s) (fit_wrote b s bs room))
+    go (Err r) = omega arith
+    go (Ok tt) =
         pick_both P _
         (pick_both P _
         (pick_cases P (ltb room (2 * length bs)) (λ l. omega arith) (λ l. let h : 2 * length bs ≤ room = ltb-false room (2 * length bs) l in omega (arith, wrote_length b s bs)))
@@ -82,7 +88,7 @@ module _ (b : List ℕ) where
   abbrev pub traces_after : List (List ℕ) → State
   traces_after = state_after (after b) ends (opened b)
 
-module _ (b : List ℕ) (clear : header_fault b ≡ Clear) where
+module _ (b : List ℕ) (clear : header_fault b ≡ Ok tt) where
   pub after_fit : (s : State) (bs : List ℕ) → fitb b s ≡ true → fitb b (after b s bs) ≡ true
   after_fit s bs f = of_fit b (after b s bs) (fit_after b s bs (fit_of b s f))
 

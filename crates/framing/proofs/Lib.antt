@@ -1,3 +1,4 @@
+pub mod Length
 pub mod Bytewise
 pub mod Portions
 pub mod Framed

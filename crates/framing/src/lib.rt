@@ -1,13 +1,12 @@
 // The framing of a reel image, which may come in portions of any size: a version byte 1, then items, each a length
 // of four bytes and that many bytes. Length 0 is a file mark, and two in a row end the reel.
-#![tactic(auto)]
+#![tactic(auto, using(basis::proofs::Rules::tests), unfolding(basis::specs::Choice::pick))]
 
-ghost use Rattle.std.specs.Prelude.{◌≡◌, ◌<◌, [], ◌∷◌};
-ghost use Rattle.framing.specs.Image.{length_of};
+ghost use Rattle.std.specs.Prelude.{◌≡◌, ◌<◌};
 ghost use Rattle.framing.specs.Next.{next_of, ending_of, after_length, passed_to, after_version, in_item, meet_of};
 
 // Where in an image a reader stands. Every value is a place in some image.
-#[derive(Clone, Copy)]
+#[derive(Clone, Copy, Debug, PartialEq, Eq)]
 pub enum Frame {
     // before the version byte
     Start,
@@ -27,7 +26,7 @@ pub enum Frame {
 
 // What the bytes passed over were: the framing's own, bytes of an item that goes on, bytes of an
 // item with its last, or the last byte of a mark.
-#[derive(Clone, Copy)]
+#[derive(Clone, Copy, Debug, PartialEq, Eq)]
 pub enum Met {
     Framing,
     Part,
@@ -36,7 +35,7 @@ pub enum Met {
 }
 
 // The reader's new place, the place of the portion that it came to, and what it passed.
-#[derive(Clone, Copy)]
+#[derive(Clone, Copy, Debug, PartialEq, Eq)]
 pub struct Step {
     pub frame: Frame,
     pub to: usize,
@@ -44,7 +43,7 @@ pub struct Step {
 }
 
 // How a reel ends: with two marks, early, or at once since its version is not 1.
-#[derive(Clone, Copy)]
+#[derive(Clone, Copy, Debug, PartialEq, Eq)]
 pub enum Ending {
     Ok,
     Cut,
@@ -56,28 +55,10 @@ pub fn close(f: Frame) -> Ending
     ensures { result ≡ ending_of f }
 {
     match f {
-        Frame::Start => Ending::Cut,
-        Frame::Length { .. } => Ending::Cut,
-        Frame::Second { .. } => Ending::Cut,
-        Frame::Third { .. } => Ending::Cut,
-        Frame::Fourth { .. } => Ending::Cut,
-        Frame::Item { .. } => Ending::Cut,
         Frame::Over => Ending::Ok,
         Frame::Wrong => Ending::Version,
+        _ => Ending::Cut,
     }
-}
-
-fn wide(b: u8) -> u32
-    ensures { result ≡ b }
-{
-    b as u32
-}
-
-// The number that a length's four bytes write.
-fn number(a: u8, b: u8, c: u8, d: u8) -> u32
-    ensures { result ≡ length_of (a ∷ b ∷ c ∷ d ∷ []) }
-{
-    ((wide(a) * 256 + wide(b)) * 256 + wide(c)) * 256 + wide(d)
 }
 
 // The step over a length's last byte, which stands right before to.
@@ -141,6 +122,7 @@ fn in_item(after: u32, at: usize, end: usize) -> Step
 }
 
 // The step from place at, where the byte x stands, of bytes that end at end.
+#[tactic(auto, using(crate::proofs::Length::length_is))]
 fn meet(f: Frame, x: u8, at: usize, end: usize) -> Step
     requires { at < end }
     ensures { result ≡ meet_of f x at end }
@@ -150,7 +132,9 @@ fn meet(f: Frame, x: u8, at: usize, end: usize) -> Step
         Frame::Length { marked } => passed(Frame::Second { marked, a: x }, at + 1),
         Frame::Second { marked, a } => passed(Frame::Third { marked, a, b: x }, at + 1),
         Frame::Third { marked, a, b } => passed(Frame::Fourth { marked, a, b, c: x }, at + 1),
-        Frame::Fourth { marked, a, b, c } => after_length(marked, number(a, b, c, x), at + 1),
+        Frame::Fourth { marked, a, b, c } => {
+            after_length(marked, u32::from_be_bytes([a, b, c, x]), at + 1)
+        }
         Frame::Item { after } => in_item(after, at, end),
         Frame::Over => passed(Frame::Over, end),
         Frame::Wrong => passed(Frame::Wrong, end),

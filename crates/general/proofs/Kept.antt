@@ -1,5 +1,6 @@
 -- What a general header that is not refused keeps, each rule of the table as a fact.
 -- Assumes nothing.
+use Rattle.std.specs.Prelude.{None, Ok, Option, Some}
 use Prim.Native.Nat.{ℕ, ◌^◌, ◌≤◌, ◌<◌}
 use mathlib.Core.Path.{◌≡◌, refl, sym}
 use mathlib.Core.Logic.{◌⊎◌, inl, inr, ⊎_elim}
@@ -11,12 +12,9 @@ use lib.ListN.{length}
 use borrow.Author.Tests.{leb-true, le-leb, lt-leb, eqb-true, not-false}
 use Rattle.basis.specs.Choice.{pick}
 use Rattle.basis.proofs.Choices.{and_true}
-use Rattle.refusals.specs.declared.Fault.TheVariants.{Clear}
 use Rattle.refusals.specs.declared.Refusal.TheVariants.{Short, Format, Digit, Range, Length}
 use Rattle.refusals.proofs.Clears.{when_clear, first_clear}
 use Rattle.codes.specs.declared.Row.{Row}
-use Rattle.codes.specs.declared.Found.{Found}
-use Rattle.codes.specs.declared.Found.TheVariants.{At, Nothing}
 use Rattle.codes.specs.Codes.{row_of}
 use Rattle.general.specs.General.{code_of, bytes_per_scan, interval_of, scan_types, channel_sets, unknown, general_digits, within, time_in_range, is_interval, scan_in_range, counts_in_range, header_length, general_fault}
 
@@ -29,7 +27,7 @@ pub record Step (i : ℕ) : Type 0 where
 -- a code among the twelve
 pub record Known (code : ℕ) : Type 0 where
   pub row : Row
-  pub found : row_of code ≡ At row
+  pub found : row_of code ≡ Some row
 
 pub record General (b : List ℕ) : Type 0 where
   pub known : Known (code_of b)
@@ -58,9 +56,9 @@ step i e =
     (power 2 (omega arith)) (or_true _ (eqb i 4) p)) (power 3 (omega arith)) (or_true _ (eqb i 8) p)) (power 4 (omega arith)) (or_true _ (eqb i 16) p))
     (power 5 (omega arith)) (or_true _ (eqb i 32) p)) (power 6 (omega arith)) (or_true _ (eqb i 64) p)) (power 7 (omega arith)) (or_true _ (eqb i 128) e)
 
-has_row : (code : ℕ) (f : Found) → row_of code ≡ f → unknown f ≡ false → Known code
-has_row code Nothing q e = absurd (false≢true (sym e))
-has_row code (At r) q e = record { row = r; found = q }
+has_row : (code : ℕ) (f : Option Row) → row_of code ≡ f → unknown f ≡ false → Known code
+has_row code None q e = absurd (false≢true (sym e))
+has_row code (Some r) q e = record { row = r; found = q }
 
 -- B of a multiplexed code, and of a demultiplexed one
 scan_kept : (code scan : ℕ) → code < 0x8000 → scan_in_range code scan ≡ true → within 1 scan 999999 ≡ true
@@ -71,7 +69,7 @@ none_kept : (code scan : ℕ) → 0x8000 ≤ code → scan_in_range code scan �
 unfolding scan_in_range pick
 none_kept code scan m e = eqb-true scan 0 (rw (le-leb 0x8000 code m) at e)
 
-pub general_kept : (b : List ℕ) → general_fault b ≡ Clear → General b
+pub general_kept : (b : List ℕ) → general_fault b ≡ Ok tt → General b
 unfolding general_fault counts_in_range
 general_kept b e =
     let a₁ = first_clear (ltb (length b) 32) Short e in

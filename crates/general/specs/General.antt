@@ -1,14 +1,13 @@
 -- The general header, the block's first 32 bytes: its fields by their bytes on the page, and the refusals 1 to 6.
 -- Assumes nothing.
-use Rattle.std.specs.Prelude.{ℕ, ◌+◌, ◌*◌, ◌^◌, Bool, true, false, not, ◌&&◌, ◌||◌, List, leb, ltb, eqb, length}
-use Rattle.refusals.specs.declared.Fault.{Fault}
+use Rattle.std.specs.Prelude.{ℕ, ◌+◌, ◌*◌, ◌^◌, Bool, true, false, not, ◌&&◌, ◌||◌, List, leb, ltb, eqb, length, None, Option, Result, Some, ⊤}
 use Rattle.basis.specs.Choice.{pick}
 use Rattle.refusals.specs.declared.Refusal.TheVariants.{Short, Format, Digit, Range, Length}
 use Rattle.refusals.specs.Order.{when, or_else}
-use Rattle.codes.specs.declared.Found.{Found}
-use Rattle.codes.specs.declared.Found.TheVariants.{At, Nothing}
 use Rattle.codes.specs.Codes.{row_of, demultiplexed}
 use Rattle.block.specs.Bytes.{byte, upper, lower, pair, decimal, three_digits, binary, pairs}
+use Rattle.refusals.specs.declared.Refusal.{Refusal}
+use Rattle.codes.specs.declared.Row.{Row}
 
 -- file number and format code
 abbrev pub file_of : List ℕ → ℕ
@@ -85,9 +84,9 @@ abbrev pub external_fields : List ℕ → ℕ
 external_fields b = pair b 32
 
 -- "code not among the twelve"
-abbrev pub unknown : Found → Bool
-unknown Nothing = true
-unknown (At row) = false
+abbrev pub unknown : Option Row → Bool
+unknown None = true
+unknown (Some row) = false
 
 -- "bytes 1-2, 11, lower half 12, 13-22, lower half 26, 27-32" are digits
 unfoldable pub general_digits : List ℕ → Bool
@@ -125,7 +124,7 @@ unfoldable pub header_length : List ℕ → ℕ
 header_length b = 32 * (fields_before b (scan_types b) + 1 + extended_fields b + external_fields b)
 
 -- the first of the refusals 1 to 6
-unfoldable pub general_fault : List ℕ → Fault
+unfoldable pub general_fault : List ℕ → Result ⊤ Refusal
 general_fault b =
     or_else (when (ltb (length b) 32) Short)
     (or_else (when (unknown (row_of (code_of b))) Format)

@@ -6,13 +6,16 @@ ghost use Rattle.sets.specs.Samples.{samples_of};
 ghost use Rattle.header.specs.Faults.{size_holds, sizes_fault, skew_holds, header_fault};
 ghost use Rattle.header.specs.Answers.{header_of, header_answer, is_set, descriptor_answer};
 
+mod accepted_block;
+
+pub use accepted_block::AcceptedBlock;
 use block::{byte_at, lower_at, pair_at, three_digits, three_pairs, two_pairs, upper_at, word_at};
-use refusals::{Fault, Refusal};
+use refusals::Refusal;
 use sets::{ChannelSet, samples};
 
 // What an accepted header says.
 #[repr(C)]
-#[derive(Clone, Copy)]
+#[derive(Clone, Copy, Debug, Default, PartialEq, Eq)]
 pub struct Header {
     pub file: u16,
     // the format code's sixteen bits
@@ -45,79 +48,60 @@ pub struct Header {
     pub samples_per_scan: u32,
 }
 
-#[derive(Clone, Copy)]
-pub enum Answer {
-    Accepted(Header),
-    Refused(Refusal),
-}
-
-// What asking for a channel set answers.
-#[derive(Clone, Copy)]
-pub enum Described {
-    Set(ChannelSet),
-    NoSet(Refusal),
-}
-
 // E2; of an 80xx code, S/S like scan type 1.
+#[tactic(auto, unfolding(crate::specs::Faults::size_holds, basis::specs::Choice::pick))]
 fn size_holds(b: &[u8], t: u8) -> bool
     ensures { result ≡ size_holds b.now t }
 {
     let code = word_at(b, 3);
     let n = samples(b, t);
     if 0x8000 <= code {
-        return n == samples(b, 0);
+        n == samples(b, 0)
+    } else {
+        8 * three_pairs(b, 20) as usize == 64 + n * codes::bits(code) as usize
     }
-    let bits = codes::bits(code) as usize;
-    let scan = three_pairs(b, 20) as usize;
-    8 * scan == 64 + n * bits
 }
 
 // The first scan type of another size than B.
-fn sizes_fault(b: &[u8]) -> Fault
+#[tactic(auto, unfolding(crate::specs::Faults::sizes_fault, crate::specs::Faults::size_fault, basis::specs::Upto::upto, basis::specs::Choice::pick))]
+fn sizes_fault(b: &[u8]) -> Result<(), Refusal>
     ensures { result ≡ sizes_fault b.now }
 {
     let scan_types = pair_at(b, 28);
-    let mut t = 0;
-    while t < scan_types {
+    for t in 0..scan_types {
         if !size_holds(b, t) {
-            return Fault::At(Refusal::Size { scan_type: t + 1 });
+            return Err(Refusal::Size { scan_type: t + 1 });
         }
-        t += 1;
     }
-    Fault::Clear
+    Ok(())
 }
 
 // E3.
+#[tactic(auto, unfolding(crate::specs::Faults::skew_holds))]
 fn skew_holds(b: &[u8]) -> bool
     ensures { result ≡ skew_holds b.now }
 {
-    let fields = pair_at(b, 30) as usize;
-    (fields == 0) | (fields == (samples(b, 0) + 31) / 32)
+    let fields = usize::from(pair_at(b, 30));
+    fields == 0 || fields == samples(b, 0).div_ceil(32)
 }
 
 // The first refusal of a header block, if any.
-pub fn header_fault(block: &[u8]) -> Fault
+#[tactic(auto, unfolding(crate::specs::Faults::header_fault, basis::specs::Choice::pick))]
+pub fn header_fault(block: &[u8]) -> Result<(), Refusal>
     ensures { result ≡ header_fault block.now }
 {
-    let g = general::general_fault(block);
-    if let Fault::At(r) = g {
-        return Fault::At(r);
-    }
-    let d = sets::descriptors_fault(block);
-    if let Fault::At(r) = d {
-        return Fault::At(r);
-    }
-    let z = sizes_fault(block);
-    if let Fault::At(r) = z {
-        return Fault::At(r);
-    }
+    general::general_fault(block)?;
+    sets::descriptors_fault(block)?;
+    sizes_fault(block)?;
     if skew_holds(block) {
-        return Fault::Clear;
+        Ok(())
+    } else {
+        Err(Refusal::Skew)
     }
-    Fault::At(Refusal::Skew)
 }
 
 // The fields of a block of which n is S/S.
+#[tactic(auto, unfolding(crate::specs::Answers::header_of))]
 fn fields(b: &[u8], n: u32) -> Header
     requires { n ≡ samples_of b.now 0 }
     ensures { result ≡ header_of b.now }
@@ -149,35 +133,32 @@ fn fields(b: &[u8], n: u32) -> Header
 }
 
 // A header block read: its fields, or the first refusal in the table's order.
-pub fn read_header(block: &[u8]) -> Answer
+#[tactic(auto, using(crate::proofs::Accepted::first_small), unfolding(crate::specs::Answers::header_answer))]
+pub fn read_header(block: &[u8]) -> Result<Header, Refusal>
     ensures { result ≡ header_answer block.now }
 {
-    let f = header_fault(block);
-    match f {
-        Fault::At(r) => Answer::Refused(r),
-        Fault::Clear => Answer::Accepted(fields(block, samples(block, 0) as u32)),
-    }
+    header_fault(block)?;
+    Ok(fields(block, samples(block, 0) as u32))
 }
 
 // Whether there are such a scan type and set, both counting from 1.
+#[tactic(auto, unfolding(crate::specs::Answers::is_set, general::specs::General::within))]
 pub fn is_set(block: &[u8], scan_type: u32, set: u32) -> bool
     ensures { result ≡ is_set block.now scan_type set }
 {
-    let scan_types = pair_at(block, 28) as u32;
-    let channel_sets = pair_at(block, 29) as u32;
-    ((1 <= scan_type) & (scan_type <= scan_types)) & ((1 <= set) & (set <= channel_sets))
+    let scan_types = u32::from(pair_at(block, 28));
+    let channel_sets = u32::from(pair_at(block, 29));
+    (1..=scan_types).contains(&scan_type) && (1..=channel_sets).contains(&set)
 }
 
 // The descriptor of a channel set, scan types and sets counting from 1.
-pub fn descriptor(block: &[u8], scan_type: u32, set: u32) -> Described
+#[tactic(auto, using(crate::proofs::Accepted::set_few), unfolding(crate::specs::Answers::descriptor_answer, basis::specs::Choice::pick))]
+pub fn descriptor(block: &[u8], scan_type: u32, set: u32) -> Result<ChannelSet, Refusal>
     ensures { result ≡ descriptor_answer block.now scan_type set }
 {
-    let f = header_fault(block);
-    if let Fault::At(r) = f {
-        return Described::NoSet(r);
-    }
+    header_fault(block)?;
     if !is_set(block, scan_type, set) {
-        return Described::NoSet(Refusal::Index);
+        return Err(Refusal::Index);
     }
-    Described::Set(sets::channel_set(block, (scan_type - 1) as u8, (set - 1) as u8))
+    Ok(sets::channel_set(block, (scan_type - 1) as u8, (set - 1) as u8))
 }

@@ -6,20 +6,19 @@ use std::io::Read;
 use std::rt::Files;
 use std::str;
 
-// Reads a file to the front of `b`, and answers how many bytes it has there; 0 where it cannot be opened.
-pub(crate) fn load(rt: &(impl Files + Eprint), name: &[u8], b: &mut [u8]) -> usize
-    ensures { IsPrefixLen result b.new }
-{
+// Reads a file to the front of the lent space, which is more than the files of data/ need, and answers what it has there; nothing where it cannot be opened.
+pub(crate) fn load<'a>(rt: &(impl Files + Eprint), name: &[u8], space: &'a mut [u8]) -> &'a [u8] {
     // A name that is no text names no file.
     let path = str::from_utf8(name).unwrap_or("");
-    match File::open(rt, path) {
-        Ok(mut file) => read_full(&mut file, b),
+    let n = match File::open(rt, path) {
+        Ok(mut file) => read_full(&mut file, space),
         Err(e) => {
             // Where that cannot be said either, it goes unsaid.
             let _said = eprintln!(rt; "{path}: {e}").is_ok();
             0
         }
-    }
+    };
+    &space[..n]
 }
 
 // Reads until b is full, the input ends or a read fails, and answers how many bytes it put at the start of b.
@@ -27,6 +26,7 @@ fn read_full(input: &mut impl Read, b: &mut [u8]) -> usize
     ensures { IsPrefixLen result b.new }
 {
     let mut done = 0;
+    // not a `for`: a read brings as many bytes as it likes
     while done < b.len() {
         let n = input.read(&mut b[done..]).unwrap_or(0);
         if n == 0 {

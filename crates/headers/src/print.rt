@@ -1,33 +1,21 @@
-// The pieces of a line.
+// How what the figures are about is printed.
 use refusals::Refusal;
-use std::io;
-
-pub(crate) fn text(rt: &impl Print, s: &str) -> io::Result<()> {
-    rt.print(s)
-}
-
-pub(crate) fn number(rt: &impl Print, n: u32) -> io::Result<()> {
-    rt.print(n)
-}
-
-// How long a block or a sheet is.
-pub(crate) fn length(rt: &impl Print, name: &str, s: &[u8]) -> io::Result<()> {
-    let n = s.len();
-    print!(rt; "{name}{n} bytes: ")
-}
+use std::fmt;
 
 // A refusal's number and values. Those of a header count from 1, and 0 is none.
-pub(crate) fn refused(rt: &impl Print, r: Refusal) -> io::Result<()> {
-    let told = refusals::tell(r);
-    text(rt, "refused ")?;
-    number(rt, told.number)?;
-    if 0 < told.first {
-        text(rt, " at ")?;
-        number(rt, told.first)?;
+#[derive(Drop)]
+pub(crate) struct Refused(pub(crate) Refusal);
+
+impl fmt::Display for Refused {
+    fn fmt<W: fmt::Write>(&self, f: &mut fmt::Formatter<W>) -> fmt::Result {
+        let told = refusals::tell(self.0);
+        write!(f, "refused {}", told.number)?;
+        if 0 < told.first {
+            write!(f, " at {}", told.first)?;
+        }
+        if 0 < told.second {
+            write!(f, " {}", told.second)?;
+        }
+        Ok(())
     }
-    if 0 < told.second {
-        text(rt, " ")?;
-        number(rt, told.second)?;
-    }
-    text(rt, "\n")
 }

@@ -1,7 +1,8 @@
 -- The two questions are inverse on every block, and reach every sample of a scan.
 -- Assumes nothing.
+use Rattle.std.specs.Prelude.{Err, Ok, Result, ⊤}
 use Prim.Native.Nat.{ℕ, ◌+◌, ◌*◌, ◌-◌, ◌/◌, ◌%◌, ◌^◌, ◌≤◌, ◌<◌}
-use mathlib.Core.Path.{◌≡◌, refl}
+use mathlib.Core.Path.{◌≡◌, refl, ap}
 use mathlib.Core.Bool.{true}
 use mathlib.Core.List.{List}
 use native.Mathlib.Nat.{mul_comm, mod-lt, div-lt_iff_lt-mul, div-add-mod'}
@@ -11,8 +12,6 @@ use Rattle.basis.specs.Choice.{pick, ◌and◌}
 use Rattle.basis.specs.Upto.{sum_upto}
 use Rattle.basis.proofs.Choices.{and_true, both_true}
 use Rattle.refusals.specs.declared.Refusal.TheVariants as refusals
-use Rattle.refusals.specs.declared.Fault.{Fault}
-use Rattle.refusals.specs.declared.Fault.TheVariants.{Clear, At}
 use Rattle.refusals.specs.Order.{when}
 use Rattle.refusals.proofs.Clears.{both_clear}
 use Rattle.general.specs.General.{scan_types, channel_sets, within}
@@ -21,13 +20,12 @@ use Rattle.header.specs.Faults.{header_fault}
 use Rattle.header.specs.Answers.{is_set}
 use Rattle.general.proofs.Kept.{within_is}
 use Rattle.header.proofs.Accepted.{types_few, sets_few, samples_small}
-use Rattle.layout.specs.declared.Index.TheVariants.{Sample}
 use Rattle.layout.specs.declared.Place.{Place}
-use Rattle.layout.specs.declared.Place.TheVariants.{Sits}
-use Rattle.layout.specs.Indexes.{has_place, index_of, index_fault, index_after, index_answer, set_at, set_of, has_sample, spot_of, place_fault, place_after, place_answer}
+use Rattle.layout.specs.Indexes.{has_place, index_of, index_fault, index_after, index_answer, set_at, set_of, has_sample, spot, spot_of, place_fault, place_after, place_answer}
 use Rattle.layout.specs.Inverse.{Reached, Inverse}
 use Rattle.layout.proofs.Facts.{kept}
 use Rattle.layout.proofs.SetLaws.{set_at_lem, set_of_sample, in_total, set_below, rest_below, in_set, channel_is, subscan_is, factor_pos}
+use Rattle.refusals.specs.declared.Refusal.{Refusal}
 
 pub is_within : (least x greatest : ℕ) → least ≤ x → x ≤ greatest → within least x greatest ≡ true
 unfolding within
@@ -84,7 +82,7 @@ pub record Small (b : List ℕ) (t s c u : ℕ) : Type 0 where
   pub channel : 1 ≤ c
   pub total : samples_before b (t - 1) (s - 1) + (u * channels_of b (t - 1) (s - 1) + (c - 1)) < 2 ^ 29
 
-pub sample_small : (b : List ℕ) (t s c u : ℕ) → header_fault b ≡ Clear → has_place b t s c u ≡ true → Small b t s c u
+pub sample_small : (b : List ℕ) (t s c u : ℕ) → header_fault b ≡ Ok tt → has_place b t s c u ≡ true → Small b t s c u
 unfolding index_of
 sample_small b t s c u e p =
     let a = asked b t s c u p in
@@ -96,7 +94,12 @@ sample_small b t s c u e p =
       total = omega (arith, index_below b t s c u a, samples_small b e (t - 1) w);
     }
 
-spot_of_index : (b : List ℕ) (t s c u : ℕ) → Asked b t s c u → spot_of b (t - 1) (index_of b t s c u) ≡ Sits s c u
+-- as the code works its number out
+pub total_small : (b : List ℕ) (t s c u : ℕ) {m n : ℕ} → header_fault b ≡ Ok tt → has_place b t s c u ≡ true
+    → m ≡ samples_before b (t - 1) (s - 1) → n ≡ channels_of b (t - 1) (s - 1) → m + (u * n + (c - 1)) < 2 ^ 29
+total_small b t s c u e p q h = rw (q, h) (sample_small b t s c u e p).total
+
+spot_of_index : (b : List ℕ) (t s c u : ℕ) → Asked b t s c u → spot_of b (t - 1) (index_of b t s c u) ≡ spot s c u
 unfolding spot_of index_of set_of set_samples
 spot_of_index b t s c u a =
     let f = set_samples b (t - 1) in
@@ -133,10 +136,17 @@ spot_facts b t k h =
       subscan = (div-lt_iff_lt-mul {k = n} {x = k - sum_upto f m} {y = subscans_of b t m} pos).1 (rw mul_comm at lj);
     }
 
-same_spot : {a x y s c u : ℕ} → Sits a x y ≡ Sits s c u → (a ≡ s) × (x ≡ c) × (y ≡ u)
-same_spot e = (cc, cc, cc)
+-- as the code has them
+pub spot_begins : (b : List ℕ) (t k : ℕ) {m n : ℕ} → k < samples_of b t → m ≡ set_of b t k → n ≡ samples_before b t m → n ≤ k
+spot_begins b t k h q e = rw (e, q) (spot_facts b t k h).begins
 
-index_of_spot : (b : List ℕ) (t k s c u : ℕ) → 1 ≤ t → t ≤ scan_types b → k < samples_of b (t - 1) → spot_of b (t - 1) k ≡ Sits s c u
+pub spot_some : (b : List ℕ) (t k : ℕ) {m n : ℕ} → k < samples_of b t → m ≡ set_of b t k → n ≡ channels_of b t m → 0 < n
+spot_some b t k h q e = rw (e, q) (spot_facts b t k h).channels
+
+same_spot : {a x y s c u : ℕ} → spot a x y ≡ spot s c u → (a ≡ s) × (x ≡ c) × (y ≡ u)
+same_spot e = (ap (λ (p : Place). p.set) e, ap (λ (p : Place). p.channel) e, ap (λ (p : Place). p.subscan) e)
+
+index_of_spot : (b : List ℕ) (t k s c u : ℕ) → 1 ≤ t → t ≤ scan_types b → k < samples_of b (t - 1) → spot_of b (t - 1) k ≡ spot s c u
     → Asked b t s c u × (index_of b t s c u ≡ k)
 unfolding spot_of index_of
 index_of_spot b t k s c u p q h e =
@@ -158,74 +168,74 @@ index_of_spot b t k s c u p q h e =
     )
 
 -- a question that is not turned away
-pub index_clear : (b : List ℕ) (t s c u : ℕ) → index_fault b t s c u ≡ Clear → (header_fault b ≡ Clear) × (has_place b t s c u ≡ true)
+pub index_clear : (b : List ℕ) (t s c u : ℕ) → index_fault b t s c u ≡ Ok tt → (header_fault b ≡ Ok tt) × (has_place b t s c u ≡ true)
 unfolding index_fault
 index_clear b t s c u e =
     let v = both_clear (header_fault b) (when _ refusals.Index) e in
     (v.0, kept (has_place b t s c u) refusals.Index v.1)
 
-pub place_clear : (b : List ℕ) (t k : ℕ) → place_fault b t k ≡ Clear → (header_fault b ≡ Clear) × (has_sample b t k ≡ true)
+pub place_clear : (b : List ℕ) (t k : ℕ) → place_fault b t k ≡ Ok tt → (header_fault b ≡ Ok tt) × (has_sample b t k ≡ true)
 unfolding place_fault
 place_clear b t k e =
     let v = both_clear (header_fault b) (when _ refusals.Index) e in
     (v.0, kept (has_sample b t k) refusals.Index v.1)
 
-pub place_small : (b : List ℕ) (t k : ℕ) → place_fault b t k ≡ Clear → (1 ≤ t) × (t ≤ 99) × (k < samples_of b (t - 1))
+pub place_small : (b : List ℕ) (t k : ℕ) → place_fault b t k ≡ Ok tt → (1 ≤ t) × (t ≤ 99) × (k < samples_of b (t - 1))
 place_small b t k e =
     let v = place_clear b t k e in
     let w = place_asked b t k v.1 in
     (w.0, omega (arith, w.1, (types_few b v.0).1), w.2)
 
 -- what an answer of the first question says
-index_told : {k : ℕ} (f : Fault) (x : ℕ) → index_after f x ≡ Sample k → (f ≡ Clear) × (x ≡ k)
-index_told Clear x e = (refl, cc)
-index_told (At r) x e = let z : ◌≡◌ {A = ℕ} 0 1 = cc in absurd (omega arith)
+index_told : {k : ℕ} (f : Result ⊤ Refusal) (x : ℕ) → index_after f x ≡ Ok k → (f ≡ Ok tt) × (x ≡ k)
+index_told (Ok tt) x e = (refl, cc)
+index_told (Err r) x e = let z : ◌≡◌ {A = ℕ} 0 1 = cc in absurd (omega arith)
 
-index_answered : (b : List ℕ) (t s c u k : ℕ) → index_answer b t s c u ≡ Sample k → (header_fault b ≡ Clear) × Asked b t s c u × (index_of b t s c u ≡ k)
+index_answered : (b : List ℕ) (t s c u k : ℕ) → index_answer b t s c u ≡ Ok k → (header_fault b ≡ Ok tt) × Asked b t s c u × (index_of b t s c u ≡ k)
 unfolding index_answer
 index_answered b t s c u k e =
     let w = index_told _ (index_of b t s c u) e in
     let v = index_clear b t s c u w.0 in
     (v.0, asked b t s c u v.1, w.1)
 
-index_answers : (b : List ℕ) (t s c u k : ℕ) → header_fault b ≡ Clear → Asked b t s c u → index_of b t s c u ≡ k → index_answer b t s c u ≡ Sample k
+index_answers : (b : List ℕ) (t s c u k : ℕ) → header_fault b ≡ Ok tt → Asked b t s c u → index_of b t s c u ≡ k → index_answer b t s c u ≡ Ok k
 unfolding index_answer index_fault pick
 index_answers b t s c u k e a q = rw (e, is_asked b t s c u a, q)
 
 -- and one of the second
-place_told : {s c u : ℕ} (f : Fault) (p : Place) → place_after f p ≡ Sits s c u → (f ≡ Clear) × (p ≡ Sits s c u)
-place_told Clear p e = (refl, e)
-place_told (At r) p e = let z : ◌≡◌ {A = ℕ} 0 1 = cc in absurd (omega arith)
+place_told : {s c u : ℕ} (f : Result ⊤ Refusal) (p : Place) → place_after f p ≡ Ok (spot s c u) → (f ≡ Ok tt) × (p ≡ spot s c u)
+place_told (Ok tt) p e = (refl, cc)
+place_told (Err r) p e = let z : ◌≡◌ {A = ℕ} 0 1 = cc in absurd (omega arith)
 
-place_answered : (b : List ℕ) (t k s c u : ℕ) → place_answer b t k ≡ Sits s c u
-    → (header_fault b ≡ Clear) × ((1 ≤ t) × (t ≤ scan_types b) × (k < samples_of b (t - 1))) × (spot_of b (t - 1) k ≡ Sits s c u)
+place_answered : (b : List ℕ) (t k s c u : ℕ) → place_answer b t k ≡ Ok (spot s c u)
+    → (header_fault b ≡ Ok tt) × ((1 ≤ t) × (t ≤ scan_types b) × (k < samples_of b (t - 1))) × (spot_of b (t - 1) k ≡ spot s c u)
 unfolding place_answer
 place_answered b t k s c u e =
     let w = place_told _ (spot_of b (t - 1) k) e in
     let v = place_clear b t k w.0 in
     (v.0, place_asked b t k v.1, w.1)
 
-place_answers : (b : List ℕ) (t k s c u : ℕ) → header_fault b ≡ Clear → 1 ≤ t → t ≤ scan_types b → k < samples_of b (t - 1) → spot_of b (t - 1) k ≡ Sits s c u
-    → place_answer b t k ≡ Sits s c u
+place_answers : (b : List ℕ) (t k s c u : ℕ) → header_fault b ≡ Ok tt → 1 ≤ t → t ≤ scan_types b → k < samples_of b (t - 1) → spot_of b (t - 1) k ≡ spot s c u
+    → place_answer b t k ≡ Ok (spot s c u)
 unfolding place_answer place_fault pick
 place_answers b t k s c u e p q h w = rw (e, has_sample_asked b t k p q h, w)
 
-pub back : (b : List ℕ) (t s c u k : ℕ) → index_answer b t s c u ≡ Sample k → place_answer b t k ≡ Sits s c u
+pub back : (b : List ℕ) (t s c u k : ℕ) → index_answer b t s c u ≡ Ok k → place_answer b t k ≡ Ok (spot s c u)
 back b t s c u k e =
     let w = index_answered b t s c u k e in
     let a = w.1 in
     place_answers b t k s c u w.0 a.scan.0 a.scan.1 (rw (← w.2) (index_below b t s c u a)) (rw (← w.2) (spot_of_index b t s c u a))
 
-pub forth : (b : List ℕ) (t s c u k : ℕ) → place_answer b t k ≡ Sits s c u → index_answer b t s c u ≡ Sample k
+pub forth : (b : List ℕ) (t s c u k : ℕ) → place_answer b t k ≡ Ok (spot s c u) → index_answer b t s c u ≡ Ok k
 forth b t s c u k e =
     let w = place_answered b t k s c u e in
     let q = index_of_spot b t k s c u w.1.0 w.1.1 w.1.2 w.2 in
     index_answers b t s c u k w.0 q.0 q.1
 
-below : (b : List ℕ) (t s c u k : ℕ) → index_answer b t s c u ≡ Sample k → k < samples_of b (t - 1)
+below : (b : List ℕ) (t s c u k : ℕ) → index_answer b t s c u ≡ Ok k → k < samples_of b (t - 1)
 below b t s c u k e = let w = index_answered b t s c u k e in rw (← w.2) (index_below b t s c u w.1)
 
-reached : (b : List ℕ) → header_fault b ≡ Clear → (t k : ℕ) → 1 ≤ t → t ≤ scan_types b → k < samples_of b (t - 1) → Reached b t k
+reached : (b : List ℕ) → header_fault b ≡ Ok tt → (t k : ℕ) → 1 ≤ t → t ≤ scan_types b → k < samples_of b (t - 1) → Reached b t k
 unfolding spot_of
 reached b e t k p q h =
     let m = set_of b (t - 1) k in

@@ -7,6 +7,7 @@ use mathlib.Core.Logic.{◌⊎◌, inl, inr, ⊎_elim}
 use native.Mathlib.Nat.{eq-or-lt_of_le, eq-zero-or-pos, add-zero, zero-mul, mul-le-mul_right, add-mul, mul_comm, mul-add-mod_self_right, mul-add-div_right, mod-eq_of_lt, div-eq_of_lt}
 use native.Mathlib.Omega.{arith}
 use lib.Dec.{leb, ltb}
+use mir.Val.{bool_byte}
 use borrow.Author.Tests.{le-leb, lt-leb, ltb-true, ltb-false}
 use Rattle.basis.specs.Choice.{pick}
 use Rattle.basis.specs.Upto.{upto, sum_upto}
@@ -27,6 +28,16 @@ sum_more f i = upto_more ◌+◌ 0 f i
 pub set_more : (f : ℕ → ℕ) (k i : ℕ) → set_at f k (i + 1) ≡ set_at f k i + pick (leb (sum_upto f (i + 1)) k) 1 0
 unfolding set_at passed
 set_more f k i = sum_more (passed f k) i
+
+-- what a test counts, as a byte
+pub byte_is : (t : Bool) → bool_byte t ≡ pick t 1 0
+unfolding pick
+byte_is true = refl
+byte_is false = refl
+
+pub byte_small : (t : Bool) {n : ℕ} → n ≡ bool_byte t → n ≤ 1
+byte_small true e = omega arith
+byte_small false e = omega arith
 
 -- the set m of k among n sets begins at k or before, and where m is below n its end is past k
 pub record Holds (f : ℕ → ℕ) (k n m : ℕ) : Type 0 where

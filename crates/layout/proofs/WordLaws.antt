@@ -1,5 +1,6 @@
 -- The words of a scan, whatever a group has before them, however many and of whatever size: each has its own bytes, and they lie within the scan.
 -- Assumes nothing.
+use Rattle.std.specs.Prelude.{Ok}
 use Prim.Native.Nat.{ℕ, zero, suc, ◌+◌, ◌*◌, ◌-◌, ◌/◌, ◌%◌, ◌≤◌, ◌<◌}
 use mathlib.Core.Path.{◌≡◌, ap}
 use mathlib.Core.List.{List}
@@ -7,7 +8,6 @@ use mathlib.Core.Logic.{⊎_elim}
 use native.Mathlib.Nat.{eq-or-lt_of_le, div-add-mod', mod-lt, mul-le-mul_right, suc-mul, le-div_iff_mul-le, div-mul-le_self, div-lt_iff_lt-mul}
 use native.Mathlib.Omega.{arith}
 use Rattle.basis.proofs.Digits.{Next, along, wrap, next}
-use Rattle.refusals.specs.declared.Fault.TheVariants.{Clear}
 use Rattle.codes.specs.Codes.{per_of, lead_of, word_bytes_of}
 use Rattle.general.specs.General.{code_of, bytes_per_scan, scan_types}
 use Rattle.sets.specs.Samples.{samples_of}
@@ -43,7 +43,7 @@ module _ (per lead word : ℕ) (some : 0 < per) where
       go (along d m u) = absurd (omega (arith, z, m))
       go (wrap d m u) = rw d (omega (arith, suc-mul (n / per) (group_bytes per lead word), ap (λ (a : ℕ). a * word) u, suc-mul (n % per) word))
 
-module _ (b : List ℕ) (e : header_fault b ≡ Clear) where
+module _ (b : List ℕ) (e : header_fault b ≡ Ok tt) where
   -- the place of sample k's word
   abbrev pub word : ℕ → ℕ
   word k = word_place (per_of (code_of b)) (lead_of (code_of b)) (word_bytes_of (code_of b)) k

@@ -41,16 +41,16 @@ buffer_length Empty bytes header = stored_length header bytes 0
 buffer_length (Heading got) bytes header = stored_length header bytes got
 buffer_length Large bytes header = refl
 buffer_length (Refused r) bytes header = refl
-buffer_length (Blocks file format s) bytes header = refl
-buffer_length (Traces file format got s said) bytes header = refl
+buffer_length (Blocks b) bytes header = refl
+buffer_length (Traces t) bytes header = refl
 
 numbers_kept : (f : File) (bytes header : List ℕ) (numbers : List ℤ) → length (numbers_after f bytes header numbers) ≡ length numbers
 numbers_kept Empty bytes header numbers = refl
 numbers_kept (Heading got) bytes header numbers = refl
 numbers_kept Large bytes header numbers = refl
 numbers_kept (Refused r) bytes header numbers = refl
-numbers_kept (Blocks file format s) bytes header numbers = numbers_length s bytes numbers
-numbers_kept (Traces file format got s said) bytes header numbers = T.numbers_length (take got header) s bytes numbers
+numbers_kept (Blocks b) bytes header numbers = numbers_length b.state bytes numbers
+numbers_kept (Traces t) bytes header numbers = T.numbers_length (take t.got header) t.state bytes numbers
 
 stored_kept : (header have bytes : List ℕ) → length have + length bytes ≤ length header → take (length have) header ≡ have
     → take (length (have ++ bytes)) (stored_in header (length have) bytes) ≡ have ++ bytes

@@ -1,5 +1,6 @@
 -- The lines that a portion makes have room in a buffer that is roomy: a file that has a line takes nine bytes of image at least.
 -- Assumes nothing.
+use Rattle.std.specs.Prelude.{None, Option, Some, Result}
 use Rattle.std.proofs.Common.{◌≡◌, ℕ, zero, suc, ◌+◌, ◌-◌, ◌*◌, ◌/◌, ◌<◌, ◌≤◌, Bool, true, false, eqb, ltb, leb, List, [], ◌∷◌, length, get_or, ℤ, refl, zero-le, arith, length-append, ltb-false, ltb-true, lt-ltb, eq-eqb, eqb-true, le-leb, leb-false, leb-true}
 use borrow.Author.Tests.{lt-leb}
 use lib.Seq.{sets, length-sets}
@@ -17,8 +18,6 @@ use Rattle.listing.specs.Lent.{line_room, line_in, line_end}
 use Rattle.listing.proofs.Longest.{line_length, last_length}
 use Rattle.files.specs.declared.File.{File}
 use Rattle.files.specs.declared.File.TheVariants.{Empty, Heading, Large, Refused, Blocks, Traces}
-use Rattle.files.specs.declared.AtMark.{AtMark}
-use Rattle.files.specs.declared.AtMark.TheVariants.{Nothing, Line}
 use Rattle.lister.specs.declared.Progress.{Progress}
 use Rattle.lister.specs.declared.Made.{Made}
 use Rattle.lister.specs.Listing.{header_room}
@@ -26,6 +25,8 @@ use Rattle.files.specs.File.{said_of}
 use Rattle.lister.specs.Turn.{Lister, next_number, said_at, text_by, heard_file, turned, turns, walked}
 use Rattle.lister.specs.Calls.{least_file, roomy, made_by, last_by}
 use Rattle.lister.proofs.Onward.{still}
+use Rattle.listing.specs.declared.Listed.{Listed}
+use Rattle.listing.specs.declared.TurnedAway.{TurnedAway}
 
 -- ---- roomy buffers
 pub record Roomy (n : ℕ) (header : List ℕ) (numbers : List ℤ) (lines : List ℕ) : Type 0 where
@@ -64,8 +65,8 @@ has Empty = false
 has (Heading got) = true
 has Large = true
 has (Refused r) = true
-has (Blocks file format s) = true
-has (Traces file format got s said) = true
+has (Blocks b) = true
+has (Traces t) = true
 
 base_most : (b : Bool) → base b ≤ 5
 base_most true = omega arith
@@ -86,13 +87,13 @@ spent_most Over b = omega (arith, base_most b)
 spent_most Wrong b = omega (arith, base_most b)
 
 -- how many lines are said
-abbrev pub made : AtMark → ℕ
-made Nothing = 0
-made (Line o) = 1
+abbrev pub made : Option (Result Listed TurnedAway) → ℕ
+made None = 0
+made (Some o) = 1
 
-text_length : (s : AtMark) (count : ℕ) → length (text_by s count) ≤ line_room * made s
-text_length Nothing count = omega arith
-text_length (Line o) count = omega (arith, line_length (next_number count) o)
+text_length : (s : Option (Result Listed TurnedAway)) (count : ℕ) → length (text_by s count) ≤ line_room * made s
+text_length None count = omega arith
+text_length (Some o) count = omega (arith, line_length (next_number count) o)
 
 -- a line is said only of a file that has a byte
 said_made : (f : File) → least_file * made (said_of f) ≤ base (has f) + 4
@@ -100,8 +101,8 @@ said_made Empty = omega arith
 said_made (Heading got) = omega arith
 said_made Large = omega arith
 said_made (Refused r) = omega arith
-said_made (Blocks file format s) = omega arith
-said_made (Traces file format got s said) = omega arith
+said_made (Blocks b) = omega arith
+said_made (Traces t) = omega arith
 
 -- a step: a line is made only by the last of nine bytes
 module _ (g : File) (p header : List ℕ) (numbers : List ℤ) where
@@ -139,7 +140,7 @@ pub none_yet : (t : Progress) (header : List ℕ) (numbers : List ℤ) → Few (
 none_yet t header numbers = record { lines = 0; long = omega arith; few = omega (arith, spent_most t.frame (has t.file)) }
 
 module _ (s : Lister) (bytes : List ℕ) (at : ℕ) (f : Few s at) where
-  abbrev pub said : AtMark
+  abbrev pub said : Option (Result Listed TurnedAway)
   said = said_at s.progress.file (next_of s.progress.frame bytes at).met
 
   pays : at < length bytes

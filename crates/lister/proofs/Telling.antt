@@ -1,15 +1,17 @@
 -- The lister as a listener: what it has after each byte, item end and mark that is told of an image.
 -- Assumes nothing.
+use Rattle.std.specs.Prelude.{Option, Result}
 use Rattle.std.proofs.Common.{◌≡◌, ℕ, ◌+◌, ◌^◌, ◌<◌, List, [], ◌∷◌, ◌++◌, map, length, sym, refl, ap, ◌∙◌, append_assoc, append-nil, mod-eq_of_lt, arith}
 use Rattle.framing.specs.Cuts.{Event, byte, close, mark, items_told, joined}
 use Rattle.listing.specs.Lines.{line_of}
 use Rattle.files.specs.File.{said_of}
-use Rattle.files.specs.declared.AtMark.{AtMark}
 use Rattle.files.specs.Outcomes.{outcome_of}
 use Rattle.lister.specs.Listing.{onto, files_of, lines_of}
 use Rattle.lister.specs.Turn.{next_number, count_by, text_by}
 use Rattle.files.proofs.Items.{Items, items_append}
 use Rattle.files.proofs.Form.{file_at, says}
+use Rattle.listing.specs.declared.Listed.{Listed}
+use Rattle.listing.specs.declared.TurnedAway.{TurnedAway}
 
 -- the items of the file so far, the bytes of the item that is open, the files with a line, and what was printed
 pub record Sum : Type 0 where
@@ -67,11 +69,11 @@ next_number_lem count h = mod-eq_of_lt h
 
 -- what is said of a file with a header item
 said_count : (cap : ℕ) (h : List ℕ) (blocks : List (List ℕ)) (count : ℕ) → Items (h ∷ blocks) → count_by (said_of (file_at cap (h ∷ blocks) [])) count ≡ next_number count
-said_count cap h blocks count p = ap (λ (m : AtMark). count_by m count) (says cap h blocks p).said
+said_count cap h blocks count p = ap (λ (m : Option (Result Listed TurnedAway)). count_by m count) (says cap h blocks p).said
 
 said_text : (cap : ℕ) (h : List ℕ) (blocks : List (List ℕ)) (count : ℕ) → Items (h ∷ blocks)
     → text_by (said_of (file_at cap (h ∷ blocks) [])) count ≡ line_of (next_number count) (outcome_of cap h blocks)
-said_text cap h blocks count p = let s = says cap h blocks p in ap (λ (m : AtMark). text_by m count) s.said ∙ s.line (next_number count)
+said_text cap h blocks count p = let s = says cap h blocks p in ap (λ (m : Option (Result Listed TurnedAway)). text_by m count) s.said ∙ s.line (next_number count)
 
 -- all items told: the lines of their files
 tell_files : (cap count : ℕ) (now : List (List ℕ)) (out : List ℕ) (items : List (List ℕ)) → Items now → Items items → count + length items < 2 ^ 64

@@ -1,26 +1,23 @@
 -- One step of the lister over an image, and all of a portion: its progress, the buffers of header and numbers, and the lines that it makes.
 -- Assumes nothing.
-use Rattle.std.specs.Prelude.{ℕ, zero, suc, ◌+◌, ◌%◌, ◌^◌, List, [], ◌++◌, length, ℤ}
+use Rattle.std.specs.Prelude.{ℕ, zero, suc, ◌+◌, ◌%◌, ◌^◌, List, [], ◌++◌, length, ℤ, None, Option, Some, Result}
 use Rattle.framing.specs.declared.Met.{Met}
 use Rattle.framing.specs.declared.Met.TheVariants.{Framing, Part, Whole, Mark}
 use Rattle.framing.specs.Next.{next_of}
 use Rattle.framing.specs.Cuts.{part}
 use Rattle.listing.specs.Lines.{line_of}
-use Rattle.listing.specs.Lent.{line_end}
 use Rattle.files.specs.declared.File.{File}
 use Rattle.files.specs.declared.File.TheVariants.{Empty}
-use Rattle.files.specs.declared.AtMark.{AtMark}
-use Rattle.files.specs.declared.AtMark.TheVariants.{Nothing, Line}
-use Rattle.lister.specs.declared.Heard.{Heard}
 use Rattle.lister.specs.declared.Progress.{Progress}
-use Rattle.lister.specs.declared.Turn.{Turn}
 use Rattle.files.specs.File.{part_of, buffer_after, numbers_after, item_end, said_of}
+use Rattle.listing.specs.declared.Listed.{Listed}
+use Rattle.listing.specs.declared.TurnedAway.{TurnedAway}
 
 -- what is said after an answer of `next`: of the file at its mark, else nothing
-abbrev pub said_at : File → Met → AtMark
-said_at f Framing = Nothing
-said_at f Part = Nothing
-said_at f Whole = Nothing
+abbrev pub said_at : File → Met → Option (Result Listed TurnedAway)
+said_at f Framing = None
+said_at f Part = None
+said_at f Whole = None
 said_at f Mark = said_of f
 
 -- the number of the file after `count` files, which is kept in 64 bits
@@ -28,18 +25,14 @@ abbrev pub next_number : ℕ → ℕ
 next_number count = (count + 1) % 2 ^ 64
 
 -- how many files have a line then,
-abbrev pub count_by : AtMark → ℕ → ℕ
-count_by Nothing count = count
-count_by (Line o) count = next_number count
+abbrev pub count_by : Option (Result Listed TurnedAway) → ℕ → ℕ
+count_by None count = count
+count_by (Some o) count = next_number count
 
 -- and the new line
-abbrev pub text_by : AtMark → ℕ → List ℕ
-text_by Nothing count = []
-text_by (Line o) count = line_of (next_number count) o
-
--- a file, and what is said, where the lines end at a place of their buffer
-abbrev pub heard_by : File → AtMark → ℕ → List ℕ → ℕ → Heard
-heard_by f said count lines end = record { file = f; count = count_by said count; end = line_end lines end (text_by said count) }
+abbrev pub text_by : Option (Result Listed TurnedAway) → ℕ → List ℕ
+text_by None count = []
+text_by (Some o) count = line_of (next_number count) o
 
 -- an answer of `next` that passed some bytes: the file after it,
 abbrev pub heard_file : File → Met → List ℕ → List ℕ → List ℤ → File
@@ -62,9 +55,10 @@ heard_numbers f Part bytes header numbers = numbers_after f bytes header numbers
 heard_numbers f Whole bytes header numbers = numbers_after f bytes header numbers
 heard_numbers f Mark bytes header numbers = numbers
 
--- and all that is heard
-abbrev pub heard_of : File → ℕ → Met → List ℕ → List ℕ → List ℤ → List ℕ → ℕ → Heard
-heard_of f count met bytes header numbers lines end = heard_by (heard_file f met bytes header numbers) (said_at f met) count lines end
+-- and the progress
+abbrev pub heard_progress : Progress → Met → List ℕ → List ℕ → List ℤ → Progress
+heard_progress t met bytes header numbers =
+    record { frame = t.frame; file = heard_file t.file met bytes header numbers; count = count_by (said_at t.file met) t.count }
 
 -- one step from a place of a portion, past whose end nothing moves: the progress after it,
 abbrev pub turn_progress : Progress → List ℕ → ℕ → List ℕ → List ℤ → Progress
@@ -83,15 +77,10 @@ abbrev pub turn_header : Progress → List ℕ → ℕ → List ℕ → List ℕ
 turn_header t bytes at header =
     heard_header t.file (next_of t.frame bytes at).met (part at (next_of t.frame bytes at).to bytes) header
 
--- the numbers' buffer,
+-- and the numbers' buffer
 abbrev pub turn_numbers : Progress → List ℕ → ℕ → List ℕ → List ℤ → List ℤ
 turn_numbers t bytes at header numbers =
     heard_numbers t.file (next_of t.frame bytes at).met (part at (next_of t.frame bytes at).to bytes) header numbers
-
--- and the whole answer, where the lines end at a place of their buffer
-abbrev pub turn_of : Progress → List ℕ → ℕ → List ℕ → List ℤ → List ℕ → ℕ → Turn
-turn_of t bytes at header numbers lines end =
-    record { progress = turn_progress t bytes at header numbers; to = (next_of t.frame bytes at).to; end = line_end lines end (turn_text t bytes at) }
 
 -- the lister with the two buffers that it goes on with, and the lines that it has made
 pub record Lister : Type 0 where

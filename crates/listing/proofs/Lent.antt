@@ -12,12 +12,6 @@ use lib.Seq.{sets, sets-eq, take-append_seam}
 use Rattle.basis.specs.Choice.{pick}
 use Rattle.listing.specs.Lent.{line_room, line_in, line_end}
 
-pub ended : (line old : List ℕ) (at : ℕ) {put out : List ℕ} {r : ℕ} → line ≡ put → ltb (length old) (at + line_room) ≡ false
-    → (out ≡ sets old at put) × (r ≡ at + length put)
-    → (r ≡ line_end old at line) × (out ≡ line_in old at line)
-unfolding pick
-ended line old at e h p = rw (h, e) (p.1, p.0)
-
 -- no line: nothing is put
 pub none : (old : List ℕ) (at : ℕ) → (at ≡ line_end old at []) × (old ≡ line_in old at [])
 unfolding pick

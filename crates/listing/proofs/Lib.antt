@@ -1,4 +1,4 @@
-pub mod Pieces
 pub mod Decimal
+pub mod Pieces
 pub mod Lent
 pub mod Longest

@@ -1,8 +1,16 @@
 -- What a lent buffer holds after a line or some bytes were put into it.
 -- Assumes nothing.
-use Rattle.std.specs.Prelude.{ℕ, ◌+◌, List, ltb, leb, length}
+use Rattle.std.specs.Prelude.{◌≡◌, ℕ, ◌+◌, List, ltb, leb, length}
 use Rattle.std.proofs.lemmas.List.Edits.{sets}
 use Rattle.basis.specs.Choice.{pick}
+use Rattle.listing.specs.declared.Line.{Line}
+
+-- a text is put into the line: in the same buffer, which is as long as it was, from the line's place on, which is then the place after it
+pub record Wrote (old : Line) (text : List ℕ) (new : Line) : Type 0 where
+  pub kept : new.out.ghost_name ≡ old.out.ghost_name
+  pub room : length new.out.now ≡ length old.out.now
+  pub out : new.out.now ≡ sets old.out.now old.at text
+  pub end : new.at ≡ old.at + length text
 
 -- "one line" per file: the longest line that there is has room in so many bytes
 abbrev pub line_room : ℕ

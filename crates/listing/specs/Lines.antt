@@ -1,6 +1,6 @@
 -- The text of the lister's lines, as bytes.
 -- Assumes nothing.
-use Rattle.std.specs.Prelude.{ℕ, zero, suc, ◌/◌, List, [], ◌∷◌, ◌++◌, ltb, leb}
+use Rattle.std.specs.Prelude.{ℕ, zero, suc, ◌/◌, List, [], ◌∷◌, ◌++◌, ltb, leb, Result, Ok, Err}
 use Prim.Native.Char.{code}
 use Prim.Native.String.{String, [] as none, ◌∷◌ as ◌then◌}
 use Rattle.io.specs.Digits.{last_digits}
@@ -8,10 +8,10 @@ use Rattle.basis.specs.Choice.{pick}
 use Rattle.refusals.specs.declared.Refusal.{Refusal}
 use Rattle.refusals.specs.Table.{told}
 use Rattle.framing.specs.declared.Ending.{Ending}
-use Rattle.framing.specs.declared.Ending.TheVariants.{Ok, Cut, Version}
+use Rattle.framing.specs.declared.Ending.TheVariants as E
 use Rattle.framing.specs.Cuts.{joined}
-use Rattle.listing.specs.declared.Outcome.{Outcome}
-use Rattle.listing.specs.declared.Outcome.TheVariants.{Listed, Refused}
+use Rattle.listing.specs.declared.Listed.{Listed}
+use Rattle.listing.specs.declared.TurnedAway.{TurnedAway}
 
 -- how many decimal digits hold n, one at least and at most one more than `most`
 abbrev pub places : ℕ → ℕ → ℕ
@@ -43,18 +43,26 @@ names_of n file format = decimal_of n ++ ((ascii " file " ++ last_digits 10 4 fi
 abbrev pub counts_of : ℕ → ℕ → ℕ → List ℕ
 counts_of scans samples off = (ascii " scans " ++ decimal_of scans) ++ ((ascii " samples " ++ decimal_of samples) ++ (ascii " off " ++ decimal_of off))
 
+-- a file that is listed, with its numbers
+abbrev pub listed : ℕ → ℕ → ℕ → ℕ → ℕ → Result Listed TurnedAway
+listed file format scans samples off = Ok (record { file = file; format = format; scans = scans; samples = samples; off = off })
+
+-- one that was refused, its body so many bytes long by then
+abbrev pub turned_away : Refusal → ℕ → Result Listed TurnedAway
+turned_away r bytes = Err (record { refusal = r; bytes = bytes })
+
 -- "record number, then `file`, `format`, `scans`, `samples`, `off` with their values, or `refused R at P`"
-abbrev pub line_of : ℕ → Outcome → List ℕ
-line_of n (Listed file format scans samples off) = names_of n file format ++ (counts_of scans samples off ++ ascii "\n")
-line_of n (Refused refusal bytes) =
+abbrev pub line_of : ℕ → Result Listed TurnedAway → List ℕ
+line_of n (Ok l) = names_of n l.file l.format ++ (counts_of l.scans l.samples l.off ++ ascii "\n")
+line_of n (Err t) =
     joined
     (decimal_of n
-    ∷ ascii " refused " ∷ decimal_of (told refusal).number
-    ∷ ascii " at " ∷ decimal_of (place_of refusal bytes)
+    ∷ ascii " refused " ∷ decimal_of (told t.refusal).number
+    ∷ ascii " at " ∷ decimal_of (place_of t.refusal t.bytes)
     ∷ ascii "\n" ∷ [])
 
 -- "Last line: `reel ok`; `reel cut` ..; or `reel version`"
 abbrev pub last_of : Ending → List ℕ
-last_of Ok = ascii "reel ok\n"
-last_of Cut = ascii "reel cut\n"
-last_of Version = ascii "reel version\n"
+last_of E.Ok = ascii "reel ok\n"
+last_of E.Cut = ascii "reel cut\n"
+last_of E.Version = ascii "reel version\n"

@@ -1,17 +1,16 @@
 -- The parts of a header block that are handed out.
 -- Assumes nothing.
-use Rattle.std.specs.Prelude.{ℕ, ◌+◌, ◌*◌, List}
-use Rattle.refusals.specs.declared.Fault.{Fault}
-use Rattle.refusals.specs.declared.Fault.TheVariants.{Clear, At}
+use Rattle.std.specs.Prelude.{ℕ, ◌+◌, ◌*◌, List, Err, Ok, Result, ⊤}
 use Rattle.general.specs.General.{scan_types, extended_fields, external_fields}
 use Rattle.sets.specs.Descriptors.{descriptor_place}
 use Rattle.header.specs.Faults.{header_fault}
 use Rattle.parts.specs.Slices.{Slice, part}
+use Rattle.refusals.specs.declared.Refusal.{Refusal}
 
 -- "A refused question for a part hands out an empty part": none of the block, at its front
-abbrev pub part_after : Fault → Slice → Slice → Slice
-part_after Clear block p = p
-part_after (At r) block p = part block 0 0
+abbrev pub part_after : Result ⊤ Refusal → Slice → Slice → Slice
+part_after (Ok tt) block p = p
+part_after (Err r) block p = part block 0 0
 
 -- the bytes before the extended header, which comes when every scan type has had its descriptors and skew fields
 unfoldable pub extended_place : List ℕ → ℕ

@@ -1,10 +1,10 @@
 // What is turned away: the rows of the description's table, by name, each with the values that its row names.
 #![tactic(auto)]
 
-ghost use Rattle.std.specs.Prelude.{◌≡◌};
-ghost use Rattle.refusals.specs.Table.{told, stop_refusal};
+ghost use Rattle.std.specs.Prelude.{◌≡◌, get_or};
+ghost use Rattle.refusals.specs.Table.{said, told, stop_refusal};
 
-#[derive(Clone, Copy)]
+#[derive(Clone, Copy, Debug, PartialEq, Eq)]
 pub enum Refusal {
     Short,
     Format,
@@ -38,16 +38,9 @@ pub enum Refusal {
     Count { place: u32 },
 }
 
-// One rule looked at: kept, or broken with the refusal that it brings.
-#[derive(Clone, Copy)]
-pub enum Fault {
-    Clear,
-    At(Refusal),
-}
-
 // A refusal in numbers, for a listing or a caller in C: its row's number, and its values in order, 0 where it has fewer. Of number 8 the third is the place of a stop, and 0 where the header is refused.
 #[repr(C)]
-#[derive(Clone, Copy)]
+#[derive(Clone, Copy, Debug, Default, PartialEq, Eq)]
 pub struct Told {
     pub number: u32,
     pub first: u32,
@@ -55,76 +48,99 @@ pub struct Told {
     pub third: u32,
 }
 
-fn in_row(number: u32, first: u32, second: u32, third: u32) -> Told
-    ensures { result ≡ (record { number = number; first = first; second = second; third = third }) }
-{
-    Told {
-        number,
-        first,
-        second,
-        third,
+impl Refusal {
+    // its row's number
+    fn number(self) -> u32
+        ensures { result ≡ (said self).number }
+    {
+        match self {
+            Refusal::Short => 1,
+            Refusal::Format => 2,
+            Refusal::Demux => 3,
+            Refusal::Digit => 4,
+            Refusal::Range => 5,
+            Refusal::Length => 6,
+            Refusal::Descriptor { .. } => 7,
+            Refusal::Four { .. } | Refusal::FourAt { .. } => 8,
+            Refusal::Size { .. } => 9,
+            Refusal::Skew => 10,
+            Refusal::Index => 11,
+            Refusal::Sheet => 12,
+            Refusal::Room => 13,
+            Refusal::Long { .. } => 14,
+            Refusal::Block { .. } => 15,
+            Refusal::Sync { .. } => 16,
+            Refusal::Timing { .. } => 17,
+            Refusal::Phase { .. } => 18,
+            Refusal::Part => 19,
+            Refusal::Open => 20,
+            Refusal::Missing => 21,
+            Refusal::Large => 22,
+            Refusal::State => 23,
+            Refusal::Trace { .. } => 24,
+            Refusal::Count { .. } => 25,
+        }
+    }
+
+    // the values that its row names, in the row's order, 0 where it has fewer
+    fn values(self) -> (u32, u32, u32)
+        ensures { result ≡ (get_or (said self).values 0 0, get_or (said self).values 1 0, get_or (said self).values 2 0) }
+    {
+        match self {
+            Refusal::Descriptor { scan_type, set } | Refusal::Four { scan_type, set } => {
+                (scan_type.into(), set.into(), 0)
+            }
+            Refusal::FourAt {
+                place,
+                scan_type,
+                set,
+            } => (scan_type.into(), set.into(), place),
+            Refusal::Size { scan_type } => (scan_type.into(), 0, 0),
+            Refusal::Long { place }
+            | Refusal::Block { place }
+            | Refusal::Sync { place }
+            | Refusal::Timing { place }
+            | Refusal::Phase { place }
+            | Refusal::Trace { place }
+            | Refusal::Count { place } => (place, 0, 0),
+            _ => (0, 0, 0),
+        }
     }
 }
 
-// A refusal in numbers: its row, and the values that the row names.
+impl From<Refusal> for Told {
+    ghost from_gives = { λ r t. t ≡ told r };
+
+    fn from(refusal: Refusal) -> Told {
+        let (first, second, third) = refusal.values();
+        Told {
+            number: refusal.number(),
+            first,
+            second,
+            third,
+        }
+    }
+}
+
+// A refusal in numbers: its row, and the values that the row names. It is `Told::from` by the name that the theorem `tell` of demands' Unique speaks of.
 pub fn tell(refusal: Refusal) -> Told
     ensures { result ≡ told refusal }
 {
-    match refusal {
-        Refusal::Short => in_row(1, 0, 0, 0),
-        Refusal::Format => in_row(2, 0, 0, 0),
-        Refusal::Demux => in_row(3, 0, 0, 0),
-        Refusal::Digit => in_row(4, 0, 0, 0),
-        Refusal::Range => in_row(5, 0, 0, 0),
-        Refusal::Length => in_row(6, 0, 0, 0),
-        Refusal::Descriptor { scan_type, set } => in_row(7, scan_type as u32, set as u32, 0),
-        Refusal::Four { scan_type, set } => in_row(8, scan_type as u32, set as u32, 0),
-        Refusal::Size { scan_type } => in_row(9, scan_type as u32, 0, 0),
-        Refusal::Skew => in_row(10, 0, 0, 0),
-        Refusal::Index => in_row(11, 0, 0, 0),
-        Refusal::Sheet => in_row(12, 0, 0, 0),
-        Refusal::Room => in_row(13, 0, 0, 0),
-        Refusal::Long { place } => in_row(14, place, 0, 0),
-        Refusal::Block { place } => in_row(15, place, 0, 0),
-        Refusal::Sync { place } => in_row(16, place, 0, 0),
-        Refusal::Timing { place } => in_row(17, place, 0, 0),
-        Refusal::Phase { place } => in_row(18, place, 0, 0),
-        Refusal::Part => in_row(19, 0, 0, 0),
-        Refusal::Open => in_row(20, 0, 0, 0),
-        Refusal::Missing => in_row(21, 0, 0, 0),
-        Refusal::Large => in_row(22, 0, 0, 0),
-        Refusal::State => in_row(23, 0, 0, 0),
-        Refusal::FourAt {
-            place,
-            scan_type,
-            set,
-        } => in_row(8, scan_type as u32, set as u32, place),
-        Refusal::Trace { place } => in_row(24, place, 0, 0),
-        Refusal::Count { place } => in_row(25, place, 0, 0),
-    }
+    Told::from(refusal)
 }
 
-// The refusal of a stop whose row names its place alone, by its number; PHASE for 18 and for any other number.
+// The refusal of a stop whose row names its place alone, by its number; PHASE for 18 and for any other number. By a number, since a state keeps its stop as one: C holds states (include/segd.h).
+#[tactic(auto, unfolding(crate::specs::Table::stop_refusal, basis::specs::Choice::pick))]
 pub fn stop_refusal(number: u32, place: u32) -> Refusal
     ensures { result ≡ stop_refusal number place }
 {
-    if number == 14 {
-        return Refusal::Long { place };
+    match number {
+        14 => Refusal::Long { place },
+        15 => Refusal::Block { place },
+        16 => Refusal::Sync { place },
+        17 => Refusal::Timing { place },
+        24 => Refusal::Trace { place },
+        25 => Refusal::Count { place },
+        _ => Refusal::Phase { place },
     }
-    if number == 15 {
-        return Refusal::Block { place };
-    }
-    if number == 16 {
-        return Refusal::Sync { place };
-    }
-    if number == 17 {
-        return Refusal::Timing { place };
-    }
-    if number == 24 {
-        return Refusal::Trace { place };
-    }
-    if number == 25 {
-        return Refusal::Count { place };
-    }
-    Refusal::Phase { place }
 }

@@ -1,6 +1,7 @@
 -- Any machine that takes bytes and block ends one at a time, whose state after p bytes and i block ends has a closed form as long as the rules
 -- find no fault, and which halts where they find one: whatever the rules, its run over a body is what they say of it.
 -- Assumes nothing.
+use Rattle.std.specs.Prelude.{Err, Ok, Result, ⊤}
 use Prim.Native.Nat.{ℕ, suc, ◌+◌, ◌≤◌, ◌<◌}
 use mathlib.Core.Path.{◌≡◌, refl, sym, ap, ap₂, ◌∙◌, subst}
 use mathlib.Core.List.{List, [], ◌∷◌, ◌++◌, append-nil}
@@ -11,8 +12,6 @@ use lib.ListN.{length, get_or, drop}
 use lib.Seq.{get_or-drop, drop-drop}
 use Rattle.basis.specs.Upto.{upto}
 use Rattle.refusals.specs.declared.Refusal.{Refusal}
-use Rattle.refusals.specs.declared.Fault.{Fault}
-use Rattle.refusals.specs.declared.Fault.TheVariants.{Clear, At}
 use Rattle.refusals.specs.Order.{or_else, first_upto}
 use Rattle.refusals.specs.Table.{stop_place}
 use Rattle.rules.specs.Tape.{Body, ends, block_of, length_of, start_of, size, byte_at, bytes_fault, block_fault, first_fault}
@@ -34,9 +33,9 @@ pub record AtEnd (d : Body) (i s p : ℕ) : Type 0 where
   pub whole : p ≡ s + length_of d i
 
 -- block i has the fault r
-pub data Broke (byte_fault end_fault : ℕ → ℕ → ℕ → Fault) (i : ℕ) (r : Refusal) : Type 0 where
-  by_byte : (s p : ℕ) → byte_fault i s p ≡ At r → Broke byte_fault end_fault i r
-  by_end : (s p : ℕ) → end_fault i s p ≡ At r → Broke byte_fault end_fault i r
+pub data Broke (byte_fault end_fault : ℕ → ℕ → ℕ → Result ⊤ Refusal) (i : ℕ) (r : Refusal) : Type 0 where
+  by_byte : (s p : ℕ) → byte_fault i s p ≡ Err r → Broke byte_fault end_fault i r
+  by_end : (s p : ℕ) → end_fault i s p ≡ Err r → Broke byte_fault end_fault i r
 
 -- a machine's state, and what it has put out so far
 pub record Run (St S : Type 0) : Type 0 where
@@ -77,7 +76,7 @@ module _ {St S : Type 0} (step : St → ℕ → St) (emit : St → ℕ → List 
   stay_uncut c h (b ∷ bs) tail = ap (λ (x : Run St S). uncut x bs tail) (ap close (stay_feed c h b) ∙ both h.closes refl) ∙ stay_uncut c h bs tail
 
   -- The closed form, its halt, what is put out before a place, and what is known there, of block i, which begins at place s.
-  module _ (byte_fault end_fault : ℕ → ℕ → ℕ → Fault) (d : Body) (stateAt : ℕ → ℕ → St) (halt_at : Refusal → ℕ → ℕ → St) (out_at : ℕ → List S) (Inv : ℕ → ℕ → ℕ → Type 0) where
+  module _ (byte_fault end_fault : ℕ → ℕ → ℕ → Result ⊤ Refusal) (d : Body) (stateAt : ℕ → ℕ → St) (halt_at : Refusal → ℕ → ℕ → St) (out_at : ℕ → List S) (Inv : ℕ → ℕ → ℕ → Type 0) where
     abbrev pub form_at : ℕ → ℕ → Run St S
     form_at i p = record { st = stateAt i p; out = out_at p }
 
@@ -86,39 +85,39 @@ module _ {St S : Type 0} (step : St → ℕ → St) (emit : St → ℕ → List 
 
     -- what is to be shown of the machine, one byte and one block end at a time
     pub record Follows : Type 0 where
-      pub byte_on : (i s p : ℕ) → Inside d i s p → Inv i s p → byte_fault i s p ≡ Clear → step (stateAt i p) (byte_at d p) ≡ stateAt i (suc p)
-      pub byte_out : (i s p : ℕ) → Inside d i s p → Inv i s p → byte_fault i s p ≡ Clear → out_at p ++ emit (stateAt i p) (byte_at d p) ≡ out_at (suc p)
-      pub byte_inv : (i s p : ℕ) → Inside d i s p → Inv i s p → byte_fault i s p ≡ Clear → Inv i s (suc p)
-      pub byte_off : (i s p : ℕ) (r : Refusal) → Inside d i s p → Inv i s p → byte_fault i s p ≡ At r → step (stateAt i p) (byte_at d p) ≡ halt_at r i p
-      pub byte_none : (i s p : ℕ) (r : Refusal) → Inside d i s p → Inv i s p → byte_fault i s p ≡ At r → emit (stateAt i p) (byte_at d p) ≡ []
-      pub byte_place : (i s p : ℕ) (r : Refusal) → byte_fault i s p ≡ At r → stop_place r ≡ p
-      pub byte_still : (i s p : ℕ) (r : Refusal) → byte_fault i s p ≡ At r → Still (halt_at r i p)
-      pub end_on_lem : (i s p : ℕ) → AtEnd d i s p → Inv i s p → end_fault i s p ≡ Clear → end_of (stateAt i p) ≡ stateAt (suc i) p
-      pub end_inv : (i s p : ℕ) → AtEnd d i s p → Inv i s p → end_fault i s p ≡ Clear → Inv (suc i) p p
-      pub end_off : (i s p : ℕ) (r : Refusal) → AtEnd d i s p → Inv i s p → end_fault i s p ≡ At r → end_of (stateAt i p) ≡ halt_at r i p
-      pub end_place : (i s p : ℕ) (r : Refusal) → end_fault i s p ≡ At r → stop_place r ≡ p
-      pub end_still : (i s p : ℕ) (r : Refusal) → end_fault i s p ≡ At r → Still (halt_at r i p)
+      pub byte_on : (i s p : ℕ) → Inside d i s p → Inv i s p → byte_fault i s p ≡ Ok tt → step (stateAt i p) (byte_at d p) ≡ stateAt i (suc p)
+      pub byte_out : (i s p : ℕ) → Inside d i s p → Inv i s p → byte_fault i s p ≡ Ok tt → out_at p ++ emit (stateAt i p) (byte_at d p) ≡ out_at (suc p)
+      pub byte_inv : (i s p : ℕ) → Inside d i s p → Inv i s p → byte_fault i s p ≡ Ok tt → Inv i s (suc p)
+      pub byte_off : (i s p : ℕ) (r : Refusal) → Inside d i s p → Inv i s p → byte_fault i s p ≡ Err r → step (stateAt i p) (byte_at d p) ≡ halt_at r i p
+      pub byte_none : (i s p : ℕ) (r : Refusal) → Inside d i s p → Inv i s p → byte_fault i s p ≡ Err r → emit (stateAt i p) (byte_at d p) ≡ []
+      pub byte_place : (i s p : ℕ) (r : Refusal) → byte_fault i s p ≡ Err r → stop_place r ≡ p
+      pub byte_still : (i s p : ℕ) (r : Refusal) → byte_fault i s p ≡ Err r → Still (halt_at r i p)
+      pub end_on_lem : (i s p : ℕ) → AtEnd d i s p → Inv i s p → end_fault i s p ≡ Ok tt → end_of (stateAt i p) ≡ stateAt (suc i) p
+      pub end_inv : (i s p : ℕ) → AtEnd d i s p → Inv i s p → end_fault i s p ≡ Ok tt → Inv (suc i) p p
+      pub end_off : (i s p : ℕ) (r : Refusal) → AtEnd d i s p → Inv i s p → end_fault i s p ≡ Err r → end_of (stateAt i p) ≡ halt_at r i p
+      pub end_place : (i s p : ℕ) (r : Refusal) → end_fault i s p ≡ Err r → stop_place r ≡ p
+      pub end_still : (i s p : ℕ) (r : Refusal) → end_fault i s p ≡ Err r → Still (halt_at r i p)
 
     module _ (m : Follows) where
-      one_on : (i s p : ℕ) → Inside d i s p → Inv i s p → byte_fault i s p ≡ Clear → one (form_at i p) (byte_at d p) ≡ form_at i (suc p)
+      one_on : (i s p : ℕ) → Inside d i s p → Inv i s p → byte_fault i s p ≡ Ok tt → one (form_at i p) (byte_at d p) ≡ form_at i (suc p)
       one_on i s p a h e = both (m.byte_on i s p a h e) (m.byte_out i s p a h e)
 
-      one_off : (i s p : ℕ) (r : Refusal) → Inside d i s p → Inv i s p → byte_fault i s p ≡ At r → one (form_at i p) (byte_at d p) ≡ stop_at r i p
+      one_off : (i s p : ℕ) (r : Refusal) → Inside d i s p → Inv i s p → byte_fault i s p ≡ Err r → one (form_at i p) (byte_at d p) ≡ stop_at r i p
       one_off i s p r a h e = both (m.byte_off i s p r a h e) (ap (λ (l : List S). out_at p ++ l) (m.byte_none i s p r a h e) ∙ append-nil (out_at p))
 
       -- the faults of the bytes from place p on
-      abbrev from : ℕ → ℕ → ℕ → ℕ → Fault
+      abbrev from : ℕ → ℕ → ℕ → ℕ → Result ⊤ Refusal
       from i s p k = byte_fault i s (p + k)
 
       from_first : (i s p n : ℕ) → first_upto (from i s p) (suc n) ≡ or_else (byte_fault i s p) (first_upto (from i s (suc p)) n)
       from_first i s p n =
           first_first (from i s p) n
           ∙ ap₂ or_else (ap (byte_fault i s) (add-zero p))
-          (upto_same or_else Clear (λ (k : ℕ). from i s p (suc k)) (from i s (suc p)) (λ k. ap (byte_fault i s) (omega arith)) n)
+          (upto_same or_else (Ok tt) (λ (k : ℕ). from i s p (suc k)) (from i s (suc p)) (λ k. ap (byte_fault i s) (omega arith)) n)
 
       data Fed (i s p n : ℕ) (c : Run St S) : Type 0 where
-        went : first_upto (from i s p) n ≡ Clear → c ≡ form_at i (p + n) → Inv i s (p + n) → Fed i s p n c
-        fell : (r : Refusal) → Broke byte_fault end_fault i r → first_upto (from i s p) n ≡ At r → c ≡ stop_at r i (stop_place r) → Still (halt_at r i (stop_place r)) → Fed i s p n c
+        went : first_upto (from i s p) n ≡ Ok tt → c ≡ form_at i (p + n) → Inv i s (p + n) → Fed i s p n c
+        fell : (r : Refusal) → Broke byte_fault end_fault i r → first_upto (from i s p) n ≡ Err r → c ≡ stop_at r i (stop_place r) → Still (halt_at r i (stop_place r)) → Fed i s p n c
 
       fed : (bs : List ℕ) (i s p : ℕ) → i ≤ ends d → s ≡ start_of d i → s ≤ p → p + length bs ≤ s + length_of d i → Inv i s p → ((k : ℕ) → k < length bs → byte_at d (p + k) ≡ get_or bs k 0) → Fed i s p (length bs) (feed (form_at i p) bs)
       unfolding upto
@@ -131,16 +130,16 @@ module _ {St S : Type 0} (step : St → ℕ → St) (emit : St → ℕ → List 
           here : Inside d i s p
           here = record { few = l; begins = q; after = a; before = omega arith }
 
-          go : (f : Fault) → byte_fault i s p ≡ f → (byte_fault i s p ≡ Clear → Fed i s (suc p) (length bs) (feed (form_at i (suc p)) bs))
+          go : (f : Result ⊤ Refusal) → byte_fault i s p ≡ f → (byte_fault i s p ≡ Ok tt → Fed i s (suc p) (length bs) (feed (form_at i (suc p)) bs))
               → Fed i s p (suc (length bs)) (feed (one (form_at i p) (byte_at d p)) bs)
-          go Clear z more = rw (one_on i s p here h z) (pass (more z))
+          go (Ok tt) z more = rw (one_on i s p here h z) (pass (more z))
             where
               pass : Fed i s (suc p) (length bs) (feed (form_at i (suc p)) bs) → Fed i s p (suc (length bs)) (feed (form_at i (suc p)) bs)
               pass (went f c g) =
                   let n : suc p + length bs ≡ p + suc (length bs) = omega arith in
                   went (from_first i s p (length bs) ∙ rw (z, f)) (rw n at c) (rw n at g)
               pass (fell r g f c v) = fell r g (from_first i s p (length bs) ∙ rw (z, f)) c v
-          go (At r) z more =
+          go (Err r) z more =
               rw (one_off i s p r here h z)
               (fell r (by_byte s p z) (from_first i s p (length bs) ∙ rw z)
               (stay_feed (stop_at r i p) (m.byte_still i s p r z) bs ∙ ap (stop_at r i) (sym (m.byte_place i s p r z)))
@@ -153,25 +152,25 @@ module _ {St S : Type 0} (step : St → ℕ → St) (emit : St → ℕ → List 
           (λ k u. byte_in_lem d i k l (subst (λ (x : List ℕ). k < length x) (sym e) u) ∙ ap (λ (x : List ℕ). get_or x k 0) e)
 
       -- what is left from block k on
-      abbrev left : ℕ → ℕ → Fault
+      abbrev left : ℕ → ℕ → Result ⊤ Refusal
       left k n = or_else (first_upto (λ (j : ℕ). block_fault byte_fault end_fault d (k + j)) n) (bytes_fault byte_fault end_fault d (ends d))
 
       left_first : (k n : ℕ) → left k (suc n) ≡ or_else (block_fault byte_fault end_fault d k) (left (suc k) n)
       left_first k n =
-          ap (λ (f : Fault). or_else f (bytes_fault byte_fault end_fault d (ends d)))
+          ap (λ (f : Result ⊤ Refusal). or_else f (bytes_fault byte_fault end_fault d (ends d)))
           (first_first (λ (j : ℕ). block_fault byte_fault end_fault d (k + j)) n
           ∙ ap₂ or_else (ap (block_fault byte_fault end_fault d) (add-zero k))
-          (upto_same or_else Clear (λ (j : ℕ). block_fault byte_fault end_fault d (k + suc j)) (λ (j : ℕ). block_fault byte_fault end_fault d (suc k + j))
+          (upto_same or_else (Ok tt) (λ (j : ℕ). block_fault byte_fault end_fault d (k + suc j)) (λ (j : ℕ). block_fault byte_fault end_fault d (suc k + j))
           (λ j. ap (block_fault byte_fault end_fault d) (omega arith)) n))
           ∙ assoc (block_fault byte_fault end_fault d k) (first_upto (λ (j : ℕ). block_fault byte_fault end_fault d (suc k + j)) n) (bytes_fault byte_fault end_fault d (ends d))
         where
-          assoc : (a b c : Fault) → or_else (or_else a b) c ≡ or_else a (or_else b c)
-          assoc Clear b c = refl
-          assoc (At r) b c = refl
+          assoc : (a b c : Result ⊤ Refusal) → or_else (or_else a b) c ≡ or_else a (or_else b c)
+          assoc (Ok tt) b c = refl
+          assoc (Err r) b c = refl
 
-      pub data Ran (f : Fault) (c : Run St S) : Type 0 where
-        went : f ≡ Clear → c ≡ form_at (ends d) (size d) → Inv (ends d) (start_of d (ends d)) (size d) → Ran f c
-        fell : (r : Refusal) (i : ℕ) → Broke byte_fault end_fault i r → f ≡ At r → c ≡ stop_at r i (stop_place r) → Ran f c
+      pub data Ran (f : Result ⊤ Refusal) (c : Run St S) : Type 0 where
+        went : f ≡ Ok tt → c ≡ form_at (ends d) (size d) → Inv (ends d) (start_of d (ends d)) (size d) → Ran f c
+        fell : (r : Refusal) (i : ℕ) → Broke byte_fault end_fault i r → f ≡ Err r → c ≡ stop_at r i (stop_place r) → Ran f c
 
       pub ran : (bs : List (List ℕ)) (k : ℕ) → drop k d.blocks ≡ bs → k + length bs ≡ ends d → Inv k (start_of d k) (start_of d k)
           → Ran (left k (length bs)) (uncut (form_at k (start_of d k)) bs d.tail)
@@ -215,8 +214,8 @@ module _ {St S : Type 0} (step : St → ℕ → St) (emit : St → ℕ → List 
               (on c ∙ then (both v.closes refl) ∙ stay_uncut (stop_at r k (stop_place r)) v bs d.tail)
           go (went f c g) more = by (end_fault k (start_of d k) q) refl
             where
-              by : (x : Fault) → end_fault k (start_of d k) q ≡ x → Ran (left k (suc (length bs))) (uncut (form_at k (start_of d k)) (b ∷ bs) d.tail)
-              by Clear z = pass (more (rw all (m.end_inv k (start_of d k) q shut g z)))
+              by : (x : Result ⊤ Refusal) → end_fault k (start_of d k) q ≡ x → Ran (left k (suc (length bs))) (uncut (form_at k (start_of d k)) (b ∷ bs) d.tail)
+              by (Ok tt) z = pass (more (rw all (m.end_inv k (start_of d k) q shut g z)))
                 where
                   next : uncut (close (feed (form_at k (start_of d k)) b)) bs d.tail ≡ uncut (form_at (suc k) (start_of d (suc k))) bs d.tail
                   next = on c ∙ then (both (m.end_on_lem k (start_of d k) q shut g z) refl ∙ ap (form_at (suc k)) (sym all))
@@ -224,7 +223,7 @@ module _ {St S : Type 0} (step : St → ℕ → St) (emit : St → ℕ → List 
                   pass : Ran (left (suc k) (length bs)) (uncut (form_at (suc k) (start_of d (suc k))) bs d.tail) → Ran (left k (suc (length bs))) (uncut (form_at k (start_of d k)) (b ∷ bs) d.tail)
                   pass (went f' c' g') = went (left_first k (length bs) ∙ rw (here, f, z) f') (next ∙ c') g'
                   pass (fell r j g' f' c') = fell r j g' (left_first k (length bs) ∙ rw (here, f, z) f') (next ∙ c')
-              by (At r) z =
+              by (Err r) z =
                   fell r k (by_end (start_of d k) q z) (left_first k (length bs) ∙ rw (here, f, z))
                   (on c ∙ then (both (m.end_off k (start_of d k) q r shut g z) refl) ∙ stay_uncut (stop_at r k q) (m.end_still k (start_of d k) q r z) bs d.tail ∙ ap (stop_at r k) (sym (m.end_place k (start_of d k) q r z)))
 
@@ -232,7 +231,7 @@ module _ {St S : Type 0} (step : St → ℕ → St) (emit : St → ℕ → List 
       pub ran_all : Inv 0 0 0 → Ran (first_fault byte_fault end_fault d) (uncut (form_at 0 0) d.blocks d.tail)
       unfolding first_fault upto
       ran_all h =
-          subst (λ (f : Fault). Ran f (uncut (form_at 0 0) d.blocks d.tail))
-          (ap (λ (f : Fault). or_else f (bytes_fault byte_fault end_fault d (ends d)))
-          (upto_same or_else Clear (λ (j : ℕ). block_fault byte_fault end_fault d (0 + j)) (block_fault byte_fault end_fault d) (λ j. ap (block_fault byte_fault end_fault d) (zero-add j)) (ends d)))
+          subst (λ (f : Result ⊤ Refusal). Ran f (uncut (form_at 0 0) d.blocks d.tail))
+          (ap (λ (f : Result ⊤ Refusal). or_else f (bytes_fault byte_fault end_fault d (ends d)))
+          (upto_same or_else (Ok tt) (λ (j : ℕ). block_fault byte_fault end_fault d (0 + j)) (block_fault byte_fault end_fault d) (λ j. ap (block_fault byte_fault end_fault d) (zero-add j)) (ends d)))
           (ran d.blocks 0 refl (zero-add (ends d)) h)

@@ -1,13 +1,10 @@
 -- What a body comes to: its stop, its samples, and the answer to the closing question.
 -- Assumes nothing.
-use Rattle.std.specs.Prelude.{ℕ, zero, suc, ◌*◌, ◌/◌, ◌%◌, not, List, eqb, ltb, ℤ, length}
-use Rattle.std.proofs.Math.Option.{Option, none, some}
+use Rattle.std.specs.Prelude.{ℕ, zero, suc, ◌*◌, ◌/◌, ◌%◌, not, List, eqb, ltb, ℤ, length, Err, Ok, Result, ⊤, Option, Some, None}
 use Rattle.basis.specs.Choice.{pick}
 use Rattle.basis.specs.Upto.{upto, sum_upto, list_upto}
 use Rattle.refusals.specs.declared.Refusal.{Refusal}
 use Rattle.refusals.specs.declared.Refusal.TheVariants.{Part, Open, Missing}
-use Rattle.refusals.specs.declared.Fault.{Fault}
-use Rattle.refusals.specs.declared.Fault.TheVariants.{Clear, At}
 use Rattle.refusals.specs.Order.{when, or_else}
 use Rattle.refusals.specs.Table.{stop_place}
 use Rattle.rules.specs.Tape.{Body, byte_at, size, first_fault}
@@ -24,21 +21,21 @@ module _ (sh : Shape) (byte : ℕ → ℕ) where
 
   -- "ITB of the first scan"
   abbrev pub first_itb : ℕ → Option ℕ
-  first_itb zero = none
-  first_itb (suc j) = some (itb_of sh byte 0)
+  first_itb zero = None
+  first_itb (suc j) = Some (itb_of sh byte 0)
 
   -- T of scan j, where it has TWI set
   abbrev pub window_of : ℕ → Option ℕ
-  window_of j = pick (eqb (twi_of sh byte j) 1) (some (time_of sh byte j)) none
+  window_of j = pick (eqb (twi_of sh byte j) 1) (Some (time_of sh byte j)) None
 
 -- the first that is not none
 abbrev pub or_next : Option ℕ → Option ℕ → Option ℕ
-or_next none later = later
-or_next (some t) later = some t
+or_next None later = later
+or_next (Some t) later = Some t
 
 -- "T of the first scan with TWI set, or none"
 abbrev pub first_window : Shape → (ℕ → ℕ) → ℕ → Option ℕ
-first_window sh byte = upto or_next none (window_of sh byte)
+first_window sh byte = upto or_next None (window_of sh byte)
 
 -- "it reports scans, samples, off-rule words, last scan type, ITB of the first scan, and T of the first scan with TWI set, or none"
 pub record Report : Type 0 where
@@ -55,19 +52,19 @@ pub data Closing : Type 0 where
   report : Report → Closing
 
 -- a report, unless something is in the way
-abbrev pub answered : Fault → Report → Closing
-answered Clear t = report t
-answered (At r) t = refused r
+abbrev pub answered : Result ⊤ Refusal → Report → Closing
+answered (Ok tt) t = report t
+answered (Err r) t = refused r
 
 -- how many of n bytes come before a stop
-abbrev pub bytes_before : Fault → ℕ → ℕ
-bytes_before Clear n = n
-bytes_before (At r) n = stop_place r
+abbrev pub bytes_before : Result ⊤ Refusal → ℕ → ℕ
+bytes_before (Ok tt) n = n
+bytes_before (Err r) n = stop_place r
 
 -- ---- of a whole body
 module _ (sh : Shape) (d : Body) where
   -- "14 to 18 stop the body": at the first fault in tape order
-  abbrev pub stop_of : Fault
+  abbrev pub stop_of : Result ⊤ Refusal
   stop_of = first_fault (byte_fault sh (byte_at d)) (end_fault sh (byte_at d)) d
 
   -- how many samples are "completed before a stop", or the body's end
@@ -96,7 +93,7 @@ module _ (sh : Shape) (d : Body) where
 
   -- "Closing: 23, earlier stop, 19, 20, 21", without 23 since there is no state here: inside a scan; bytes after the last block end;
   -- fewer scan types seen than ST/R
-  abbrev pub closing_fault : Fault
+  abbrev pub closing_fault : Result ⊤ Refusal
   closing_fault =
       or_else stop_of
       (or_else (when (not (eqb (size d % sh.scan) 0)) Part)

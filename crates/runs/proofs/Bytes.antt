@@ -31,14 +31,3 @@ four_there bs i h = rw (le-leb (i + 4) (length bs) h)
 pub four_cut : (bs : List ℕ) (i : ℕ) → length bs < i + 4 → four_at bs i ≡ 0
 unfolding four_at pick
 four_cut bs i h = rw (lt-leb (i + 4) (length bs) h)
-
--- the bytes of a word of two or four, the least first
-pub little_two : {a b : ℕ} → a < 256 → b < 256 → ((a + b * 256) % 256 ≡ a) × ((a + b * 256) / 256 ≡ b)
-little_two p q = (omega arith, omega arith)
-
-pub little_four : {a b c d : ℕ} → a < 256 → b < 256 → c < 256 → d < 256
-    → ((a + b * 256 + c * 65536 + d * 16777216) % 256 ≡ a)
-    × (((a + b * 256 + c * 65536 + d * 16777216) / 256 % 256 ≡ b)
-    × (((a + b * 256 + c * 65536 + d * 16777216) / 65536 % 256 ≡ c)
-    × ((a + b * 256 + c * 65536 + d * 16777216) / 16777216 ≡ d)))
-little_four p q r s = (omega arith, (omega arith, (omega arith, omega arith)))

@@ -7,6 +7,7 @@ use native.Mathlib.Nat.{min-le_left, min-le_right}
 use native.Mathlib.Omega.{arith}
 use lib.IntN.{ℤ}
 use lib.ListN.{length, length-append, take, drop, length-drop, set, length-set, take-append-drop}
+use Rattle.std.proofs.lemmas.List.{length-take-le}
 use lib.Seq.{take_at, drop_at}
 use Rattle.basis.specs.Upto.{upto}
 use Rattle.basis.proofs.Choices.{pick_both}
@@ -114,8 +115,12 @@ module _ {f : ℕ → Value} {a n : ℕ} {out₀ out : List ℤ} {off k : ℕ} (
         back = rw two (drop_two out (2 * k) x.m x.x ∙ further (2 * k) 2 out out₀ d.back);
       }
 
-  -- the same of a word that is named otherwise, from what a call says
-  done_put : {o : List ℤ} {t j i : ℕ} → Wrote f j out o t → j ≡ k → i ≡ k + 1 → k < n → Done f a n out₀ o (off + t) i
+  -- the same, from what a call of `put` says
+  pub done_wrote : k < n → {x : Value} {t : ℕ} {o : List ℤ} → x ≡ f k → t ≡ off_one x → o ≡ set (set out (2 * k) x.m) (2 * k + 1) x.x → Done f a n out₀ o (off + t) (k + 1)
+  done_wrote h e p q = rw q (done_more h e (rw p))
+
+  -- the same of a word that is named otherwise
+  pub done_put : {o : List ℤ} {t j i : ℕ} → Wrote f j out o t → j ≡ k → i ≡ k + 1 → k < n → Done f a n out₀ o (off + t) i
   done_put w ej ei h = rw (ei, w.1, ej) (done_more h {x = f k} refl (rw (w.0, ej)))
 
   -- no matter what stood under the words that are written
@@ -159,6 +164,10 @@ module _ {f : ℕ → Value} {a n : ℕ} {out₀ out : List ℤ} {off k : ℕ} (
       let e : n ≡ k = omega (arith, d.within) in
       rw e done_far
 
+-- a loop over the first n of some words takes n turns
+pub took : {X : Type 0} {n : ℕ} (b : ℕ) (ws : List X) → n ≡ min (length ws) b → length (take n ws) ≡ n
+took {n = n} b ws e = length-take-le n ws (omega (arith, e, min-le_left (length ws) b))
+
 -- off-rule words counted apart: as many as there are, at each turn of the loop
 pub done_zero : (f : ℕ → Value) (a n : ℕ) (out : List ℤ) → n ≡ min a (length out / 2) → Done f a n out out (offs f 0) 0
 unfolding offs upto
@@ -166,16 +175,6 @@ done_zero f a n out e = done_none f a n out e
 
 pub done_next : {f : ℕ → Value} {a n : ℕ} {out₀ out : List ℤ} {k : ℕ} → Done f a n out₀ out (offs f k) k → k < n → {x : Value} → x ≡ f k → Done f a n out₀ (set (set out (2 * k) x.m) (2 * k + 1) x.x) (offs f (k + 1)) (k + 1)
 done_next {f} {k = k} d h ex = done_more d h ex (rw ex (offs_more f k))
-
--- the four words of a group more
-pub done_four : {f : ℕ → Value} {a n : ℕ} {out₀ out : List ℤ} {off g : ℕ} → Done f a n out₀ out off (4 * g) → g < n / 4
-    → {o1 o2 o3 o4 : List ℤ} {t1 t2 t3 t4 : ℕ} → Wrote f (4 * g + 0) out o1 t1 → Wrote f (4 * g + 1) o1 o2 t2 → Wrote f (4 * g + 2) o2 o3 t3 → Wrote f (4 * g + 3) o3 o4 t4
-    → Done f a n out₀ o4 (off + t1 + t2 + t3 + t4) (4 * (g + 1))
-done_four {g = g} d h w1 w2 w3 w4 =
-    let d1 = done_put d {i = 4 * g + 1} w1 (omega arith) (omega arith) (omega arith) in
-    let d2 = done_put d1 {i = 4 * g + 2} w2 (omega arith) (omega arith) (omega arith) in
-    let d3 = done_put d2 {i = 4 * g + 3} w3 (omega arith) (omega arith) (omega arith) in
-    done_put d3 w4 (omega arith) (omega arith) (omega arith)
 
 -- the contract of a loop, from its end: the words that are there are those that the bytes hold
 pub loop_ends : (words : ℕ → ℕ) (word : List ℕ → ℕ → Value) (bs : List ℕ) {n : ℕ} {out₀ out : List ℤ} {off k : ℕ} → Done (word bs) (words (length bs)) n out₀ out off k → n ≤ k

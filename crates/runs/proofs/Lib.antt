@@ -3,3 +3,4 @@ pub mod Writes
 pub mod Done
 pub mod Grouped
 pub mod Apart
+pub mod Chunks

@@ -5,6 +5,7 @@ use Rattle.basis.specs.Upto.{sum_upto, list_upto}
 use Rattle.words.specs.declared.Value.{Value}
 use Rattle.words.specs.Words.{off_one}
 use Rattle.runs.specs.declared.Ran.{Ran}
+use Rattle.runs.specs.Words.{byte_value}
 
 -- 1 where word k is off rule
 abbrev off_at : (ℕ → Value) → ℕ → ℕ
@@ -13,6 +14,10 @@ off_at f k = off_one (f k)
 -- the off-rule words among the first n
 unfoldable pub offs : (ℕ → Value) → ℕ → ℕ
 offs f n = sum_upto (off_at f) n
+
+-- the off-rule words among some bytes, each of them a word of 0022 or else of 0042
+unfoldable pub marked : ℕ → List ℕ → ℕ
+marked code bs = offs (byte_value code bs) (length bs)
 
 -- M and X of word k
 abbrev both : (ℕ → Value) → ℕ → List ℤ

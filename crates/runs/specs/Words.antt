@@ -1,10 +1,9 @@
 -- Word k, from 0, of whole words or groups that stand one after another in some bytes, and how many there are; four bytes by themselves.
 -- Assumes nothing.
-use Rattle.std.specs.Prelude.{ℕ, ◌+◌, ◌-◌, ◌*◌, ◌/◌, ◌%◌, List, eqb, leb, length}
+use Rattle.std.specs.Prelude.{ℕ, ◌+◌, ◌-◌, ◌*◌, ◌/◌, ◌%◌, List, leb, length}
 use Rattle.basis.specs.Choice.{pick}
 use Rattle.basis.specs.Digits.{written, byte_in}
 use Rattle.basis.specs.Fields.{field}
-use Rattle.codes.specs.Codes.{word_bytes_of}
 use Rattle.words.specs.declared.Value.{Value}
 use Rattle.words.specs.Words.{value_of}
 use Rattle.words.specs.Tables.{byte_code, tabled}
@@ -16,14 +15,6 @@ four_at bs i = pick (leb (i + 4) (length bs)) (written 256 (byte_in bs) i 4) 0
 -- the words of w bytes that so many bytes hold
 unfoldable pub words_in : ℕ → ℕ → ℕ
 words_in w bytes = bytes / w
-
--- the code of words that stand alone and have more than one byte: 0048, 0024 or else 0044
-unfoldable pub plain_code : ℕ → ℕ
-plain_code code = pick (eqb code 0x0048) 0x0048 (pick (eqb code 0x0024) 0x0024 0x0044)
-
--- the bytes of its words, as its row has them
-abbrev pub plain_bytes : ℕ → ℕ
-plain_bytes code = word_bytes_of (plain_code code)
 
 -- a word of w bytes, of a code whose words stand alone
 unfoldable pub plain_value : ℕ → ℕ → List ℕ → ℕ → Value

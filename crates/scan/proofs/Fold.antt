@@ -6,13 +6,13 @@ use mathlib.Core.Bool.{false}
 use mathlib.Core.List.{List, [], ◌∷◌, ◌++◌, append_assoc}
 use native.Mathlib.Omega.{arith}
 use lib.Dec.{eqb}
-use lib.IntN.{ℤ}
 use lib.ListN.{length, length-append}
+use Rattle.std.specs.Prelude.{Option, None, Some}
 use Rattle.basis.specs.Choice.{pick}
-use Rattle.basis.proofs.Choices.{pick_both}
+use Rattle.words.specs.declared.Value.{Value}
 use Rattle.scan.specs.declared.State.{State}
 use Rattle.scan.specs.declared.Stepped.{Stepped}
-use Rattle.scan.specs.Step.{step, still, after, wrote, m_and_x}
+use Rattle.scan.specs.Step.{step, still, after, wrote, m_then_x, m_and_x}
 
 pub after_append : (s : State) (a b : List ℕ) → after s (a ++ b) ≡ after (after s a) b
 unfolding after
@@ -24,9 +24,13 @@ unfolding after wrote
 wrote_append s [] b = refl
 wrote_append s (x ∷ a) b = rw (wrote_append (step s x).state a b, append_assoc)
 
-pair_length : (r : Stepped) → length (m_and_x r) ≤ 2
+some_length : (v : Option Value) → length (m_then_x v) ≤ 2
+some_length None = omega arith
+some_length (Some v) = omega arith
+
+pair_length : (r : Stepped State) → length (m_and_x r) ≤ 2
 unfolding m_and_x
-pair_length r = pick_both (λ (l : List ℤ). length l ≤ 2) _ (omega arith) (omega arith)
+pair_length r = some_length r.value
 
 pub wrote_length : (s : State) (bs : List ℕ) → length (wrote s bs) ≤ 2 * length bs
 unfolding wrote

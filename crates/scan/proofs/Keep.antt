@@ -21,7 +21,7 @@ use Rattle.scan.specs.Step.{step, after, still, halt, halted, moved, moved_by, q
 use Rattle.scan.proofs.Choices.{pick_cases}
 
 -- the steps
-Keeps : Stepped → Type 0
+Keeps : Stepped State → Type 0
 Keeps r = Fit r.state
 
 fit_still : {s : State} → Fit s → Keeps (still s)
@@ -160,7 +160,7 @@ fit_after s [] f = f
 fit_after s (b ∷ bs) f = fit_after (step s b).state bs (fit_step s b f)
 
 -- no byte changes what the header said
-abbrev Shaped : Shape → Stepped → Type 0
+abbrev Shaped : Shape → Stepped State → Type 0
 Shaped h r = r.state.shape ≡ h
 
 shape_quiet : (s : State) (b : ℕ) → Shaped s.shape (quiet s b)

@@ -1,6 +1,6 @@
 -- What one byte of a body does to the reader's state: "then per byte 14, 15, 16, 18, 17".
 -- Assumes nothing.
-use Rattle.std.specs.Prelude.{ℕ, ◌+◌, ◌-◌, ◌*◌, ◌/◌, ◌%◌, ◌^◌, Bool, true, false, List, [], ◌∷◌, ◌++◌, ℤ, pos, eqb, ltb, leb}
+use Rattle.std.specs.Prelude.{ℕ, ◌+◌, ◌-◌, ◌*◌, ◌/◌, ◌%◌, ◌^◌, Bool, List, [], ◌∷◌, ◌++◌, ℤ, eqb, ltb, leb, Option, None, Some}
 use Rattle.basis.specs.Choice.{pick, ◌and◌, ◌or◌}
 use Rattle.basis.specs.Fields.{field}
 use Rattle.codes.specs.Codes.{group_of}
@@ -11,13 +11,9 @@ use Rattle.scan.specs.declared.Track.{Track}
 use Rattle.scan.specs.declared.State.{State}
 use Rattle.scan.specs.declared.Stepped.{Stepped}
 
--- no sample
-unfoldable pub none : Value
-none = record { m = pos 0; x = pos 0; off = false }
-
 -- a state as it is, with nothing written
-unfoldable pub still : State → Stepped
-still s = record { state = s; completed = false; value = none }
+unfoldable pub still : {S : Type 0} → S → Stepped S
+still s = record { state = s; value = None }
 
 -- "14 to 18 stop the body at a place counted from 0"
 unfoldable pub halted : State → ℕ → State
@@ -35,7 +31,7 @@ halted s number =
     }
 
 -- a byte that stops the body writes nothing
-unfoldable pub halt : State → ℕ → Stepped
+unfoldable pub halt : State → ℕ → Stepped State
 halt s number = still (halted s number)
 
 -- the last four bytes, after one more
@@ -66,7 +62,7 @@ unfoldable pub moved : State → Track → ℕ → ℕ → ℕ → State
 moved s k e off b = moved_by s 1 k e off (shift s.held b)
 
 -- a byte that tells nothing by itself
-unfoldable pub quiet : State → ℕ → Stepped
+unfoldable pub quiet : State → ℕ → Stepped State
 quiet s b = still (moved s s.track s.exponents s.off b)
 
 -- BLOCK: "a byte after the last allowed scan of a block, or after a one-block body's end"
@@ -74,11 +70,11 @@ unfoldable pub full : Shape → ℕ → ℕ → Bool
 full h place ends = pick (eqb h.block 0) (leb 1 ends) (ltb ends (place / h.scan / h.block))
 
 -- bytes 1 to 3 of a scan: FF FF FF
-unfoldable pub sync : State → ℕ → Stepped
+unfoldable pub sync : State → ℕ → Stepped State
 sync s b = pick (eqb b 255) (quiet s b) (halt s 16)
 
 -- byte 1: BLOCK, then SYNC
-unfoldable pub start : State → ℕ → Stepped
+unfoldable pub start : State → ℕ → Stepped State
 start s b = pick (full s.shape s.place s.ends) (halt s 15) (sync s b)
 
 -- the scan type by byte 4, after scan type n: "DP is 0 in scan type 1 and flips with each next scan type"
@@ -95,7 +91,7 @@ unfoldable pub phased : Track → ℕ → ℕ → Bool
 phased k types b = pick (eqb k.seen 0) (eqb (field b 4 1) 0) (leb (typed k b).seen types)
 
 -- byte 4: "a byte with last bits 01"
-unfoldable pub phase : State → ℕ → Stepped
+unfoldable pub phase : State → ℕ → Stepped State
 phase s b =
     pick (eqb (b % 4) 1)
     (pick (phased s.track s.shape.types b)
@@ -118,15 +114,15 @@ instep s b =
     eqb b 0 and (ltb s.place s.shape.scan or eqb (shift s.held b) ((s.track.timing + s.shape.advance) % 2 ^ 32))
 
 -- byte 8: in step, or TIMING
-unfoldable pub time : State → ℕ → Stepped
+unfoldable pub time : State → ℕ → Stepped State
 time s b = pick (instep s b) (still (moved s (timed s.track s.held b) s.exponents s.off b)) (halt s 17)
 
 -- the last byte of a word: its sample, counted where it is off rule
-unfoldable pub sample : State → Value → ℕ → Stepped
-sample s w b = record { state = moved s s.track s.exponents (s.off + off_one w) b; completed = true; value = w }
+unfoldable pub sample : State → Value → ℕ → Stepped State
+sample s w b = record { state = moved s s.track s.exponents (s.off + off_one w) b; value = Some w }
 
 -- a byte of a word of w bytes, at place q of the scan
-unfoldable pub plain : State → ℕ → ℕ → ℕ → Stepped
+unfoldable pub plain : State → ℕ → ℕ → ℕ → Stepped State
 plain s b w q =
     pick (eqb ((q - 7) % w) 0) (sample s (value_of s.shape.code 0 (low (shift s.held b) w)) b) (quiet s b)
 
@@ -135,7 +131,7 @@ unfoldable pub nibble : ℕ → ℕ → ℕ
 nibble e g = field e (18 - 2 * g) 4
 
 -- byte g of a group of 0015: "four c of 4 bits, then four of S Q14 0"
-unfoldable pub grouped : State → ℕ → ℕ → Stepped
+unfoldable pub grouped : State → ℕ → ℕ → Stepped State
 grouped s b g =
     pick (eqb (g % 2) 0)
     (quiet s b)
@@ -144,12 +140,12 @@ grouped s b g =
     (sample s (value_of s.shape.code (nibble s.exponents g) (low (shift s.held b) 2)) b))
 
 -- a byte of the sample words, at place q of the scan; groups of ten bytes are those of 0015
-unfoldable pub word : State → ℕ → ℕ → Stepped
+unfoldable pub word : State → ℕ → ℕ → Stepped State
 word s b q =
     pick (eqb (group_of s.shape.code) 10) (grouped s b ((q - 8) % 10)) (plain s b (group_of s.shape.code) q)
 
 -- one byte: a stopped state takes none; LONG at place 4,294,967,295; then by its place in the scan
-unfoldable pub step : State → ℕ → Stepped
+unfoldable pub step : State → ℕ → Stepped State
 step s b =
     pick (eqb s.stop 0)
     (pick (eqb s.place 4294967295)
@@ -170,9 +166,14 @@ unfoldable pub after : State → List ℕ → State
 after s [] = s
 after s (b ∷ bs) = after (step s b).state bs
 
+-- M then X, of a sample if there is one
+abbrev pub m_then_x : Option Value → List ℤ
+m_then_x None = []
+m_then_x (Some v) = v.m ∷ v.x ∷ []
+
 -- "each sample gives M then X when its last byte arrives"
-unfoldable pub m_and_x : Stepped → List ℤ
-m_and_x r = pick r.completed (r.value.m ∷ r.value.x ∷ []) []
+unfoldable pub m_and_x : {S : Type 0} → Stepped S → List ℤ
+m_and_x r = m_then_x r.value
 
 -- what some bytes write
 unfoldable pub wrote : State → List ℕ → List ℤ

@@ -8,7 +8,7 @@ use words::Value;
 
 // What the header says of the body.
 #[repr(C)]
-#[derive(Clone, Copy)]
+#[derive(Clone, Copy, Default)]
 pub struct Shape {
     pub code: u16,
     // B, the bytes of a scan
@@ -21,9 +21,9 @@ pub struct Shape {
     pub block: u32,
 }
 
-// What the starts of the scans told so far.
+// What the starts of the scans told so far. C holds it (include/segd.h, SegdState): so TWI is a flag beside its window, and no Option.
 #[repr(C)]
-#[derive(Clone, Copy)]
+#[derive(Clone, Copy, Default)]
 pub struct Track {
     // the last timing word, in the top three bytes
     pub timing: u32,
@@ -36,9 +36,9 @@ pub struct Track {
     pub window: u32,
 }
 
-// Scans, samples and the place in a scan are not kept: `place` gives them.
+// Scans, samples and the place in a scan are not kept: `place` gives them. C holds it and hands it in again (include/segd.h): so a stop is two numbers.
 #[repr(C)]
-#[derive(Clone, Copy)]
+#[derive(Clone, Copy, Default)]
 pub struct State {
     pub shape: Shape,
     // the bytes so far
@@ -57,12 +57,11 @@ pub struct State {
     pub stopat: u32,
 }
 
-// What one byte comes to: the next state, and the sample that it completed, if it did.
+// What one byte comes to: the next state, of this reader or of that of a trace, and the sample that it completed, if it did.
 #[derive(Clone, Copy)]
-pub struct Stepped {
-    pub state: State,
-    pub completed: bool,
-    pub value: Value,
+pub struct Stepped<S> {
+    pub state: S,
+    pub value: Option<Value>,
 }
 
 // Whether there are words, and a scan has a whole number of their groups of w bytes.
@@ -70,10 +69,7 @@ fn whole(scan: u32, w: u32) -> bool
     requires { 8 ≤ scan }
     ensures { result ≡ wholeb scan w }
 {
-    if w == 0 {
-        return false;
-    }
-    (scan - 8) % w == 0
+    w != 0 && (scan - 8) % w == 0
 }
 
 // A multiplexed code, and numbers within the bounds of a header's.
@@ -95,23 +91,14 @@ fn shape_fits(h: Shape, w: u32) -> bool
     if h.scan < 8 {
         return false;
     }
-    if 999999 < h.scan {
-        return false;
-    }
-    if whole(h.scan, w) { limits(h) } else { false }
+    (h.scan <= 999999) & whole(h.scan, w) & limits(h)
 }
 
 // No stop, or one of 14 to 18.
 fn stop_fits(stop: u32) -> bool
     ensures { result ≡ stopb stop }
 {
-    if stop == 0 {
-        return true;
-    }
-    if stop < 14 {
-        return false;
-    }
-    stop <= 18
+    (stop == 0) | (14 <= stop) & (stop <= 18)
 }
 
 // What the starts of the scans told is within its bounds.

@@ -1,5 +1,6 @@
 -- What a descriptor that is not refused keeps, and the samples of a scan whose sets all go by four.
 -- Assumes nothing.
+use Rattle.std.specs.Prelude.{Ok}
 use Prim.Native.Nat.{ℕ, zero, suc, ◌+◌, ◌*◌, ◌/◌, ◌%◌, ◌≤◌, ◌<◌}
 use mathlib.Core.Path.{◌≡◌, refl, sym}
 use mathlib.Core.Bool.{Bool, true, false, not, ◌||◌, and-false, false≢true}
@@ -10,7 +11,6 @@ use lib.Dec.{leb, eqb}
 use lib.Pow.{pow_mono}
 use borrow.Author.Tests.{leb-true, lt-leb, eqb-true, eq-eqb, not-false}
 use Rattle.basis.specs.Upto.{upto}
-use Rattle.refusals.specs.declared.Fault.TheVariants.{Clear}
 use Rattle.refusals.specs.declared.Refusal.TheVariants.{Descriptor, Four}
 use Rattle.refusals.proofs.Clears.{when_clear, first_clear, each_clear}
 use Rattle.codes.specs.Codes.{per_of, demultiplexed}
@@ -22,11 +22,11 @@ use Rattle.sets.specs.Descriptors.{descriptor_at, descriptor_holds, four_holds, 
 use Rattle.sets.specs.Samples.{channels_of, subscans_of, set_samples, samples_before}
 
 -- each descriptor of a block whose descriptors are not refused
-pub each_kept : (b : List ℕ) → descriptors_fault b ≡ Clear → (t s : ℕ) → t < scan_types b → s < channel_sets b → set_fault b t s ≡ Clear
+pub each_kept : (b : List ℕ) → descriptors_fault b ≡ Ok tt → (t s : ℕ) → t < scan_types b → s < channel_sets b → set_fault b t s ≡ Ok tt
 unfolding descriptors_fault scan_type_fault
 each_kept b e t s h g = each_clear (set_fault b t) s _ g (each_clear (scan_type_fault b) t _ h e)
 
-pub descriptor_kept : (b : List ℕ) (t s : ℕ) → set_fault b t s ≡ Clear → descriptor_holds (descriptor_at b t s) t s ≡ true
+pub descriptor_kept : (b : List ℕ) (t s : ℕ) → set_fault b t s ≡ Ok tt → descriptor_holds (descriptor_at b t s) t s ≡ true
 unfolding set_fault
 descriptor_kept b t s e = not-false _ (first_clear (not (descriptor_holds (descriptor_at b t s) t s)) (Descriptor (t + 1) (s + 1)) e).0
 
@@ -38,7 +38,7 @@ exponent_small d t s e = leb-true _ _ (by_test (leb (upper d 12) 9) refl)
     by_test true p = p
     by_test false p = let z : ◌≡◌ {A = Bool} false true = simp (p, and-false) at e in absurd (false≢true z)
 
-pub subscans_few : (b : List ℕ) (t s : ℕ) → set_fault b t s ≡ Clear → subscans_of b t s ≤ 512
+pub subscans_few : (b : List ℕ) (t s : ℕ) → set_fault b t s ≡ Ok tt → subscans_of b t s ≤ 512
 subscans_few b t s e = pow_mono (exponent_small (descriptor_at b t s) t s (descriptor_kept b t s e))
 
 -- "channels 0-9999"
@@ -62,11 +62,11 @@ decimal_few d e =
     let c = pair_few (byte d 10) p.1 in
     omega arith
 
-pub channels_few : (b : List ℕ) (t s : ℕ) → set_fault b t s ≡ Clear → channels_of b t s ≤ 9999
+pub channels_few : (b : List ℕ) (t s : ℕ) → set_fault b t s ≡ Ok tt → channels_of b t s ≤ 9999
 channels_few b t s e = decimal_few (descriptor_at b t s) (pairs_kept (descriptor_at b t s) t s (descriptor_kept b t s e))
 
 -- so that no scan has more than so many samples
-pub samples_bounded : (b : List ℕ) (t n : ℕ) → ((s : ℕ) → s < n → set_fault b t s ≡ Clear) → samples_before b t n ≤ n * 5119488
+pub samples_bounded : (b : List ℕ) (t n : ℕ) → ((s : ℕ) → s < n → set_fault b t s ≡ Ok tt) → samples_before b t n ≤ n * 5119488
 unfolding upto set_samples
 samples_bounded b t zero h = omega arith
 samples_bounded b t (suc n) h =
@@ -81,7 +81,7 @@ four false true n q p e = eqb-true _ _ e
 four false false n q p e = absurd (false≢true p)
 
 -- "In format 0015 each channel count divides by 4"
-pub channels_by_four : (b : List ℕ) (t s : ℕ) → set_fault b t s ≡ Clear → code_of b < 0x8000 → per_of (code_of b) ≡ 4 → channels_of b t s % 4 ≡ 0
+pub channels_by_four : (b : List ℕ) (t s : ℕ) → set_fault b t s ≡ Ok tt → code_of b < 0x8000 → per_of (code_of b) ≡ 4 → channels_of b t s % 4 ≡ 0
 unfolding set_fault four_holds
 channels_by_four b t s e m p =
     let a = first_clear (not (descriptor_holds (descriptor_at b t s) t s)) (Descriptor (t + 1) (s + 1)) e in

@@ -1,5 +1,6 @@
 -- What a question for skew or time that is not refused tells: the skew bytes lie within the slice that has them, and byte k is that of sample k.
 -- Assumes nothing.
+use Rattle.std.specs.Prelude.{Ok}
 use Prim.Native.Nat.{ℕ, ◌+◌, ◌*◌, ◌-◌, ◌^◌, ◌≤◌, ◌<◌}
 use mathlib.Core.Path.{◌≡◌, refl, ◌∙◌, ap}
 use mathlib.Core.Bool.{Bool, true, false, not, ◌||◌}
@@ -11,7 +12,6 @@ use lib.ListN.{length, get_or}
 use lib.Seq.{get_or-take, get_or-drop}
 use borrow.Author.Tests.{eqb-true, eqb-false, ltb-true}
 use Rattle.basis.specs.Choice.{pick}
-use Rattle.refusals.specs.declared.Fault.TheVariants.{Clear}
 use Rattle.refusals.specs.declared.Refusal.TheVariants.{Index, Sheet}
 use Rattle.refusals.specs.Order.{when}
 use Rattle.refusals.proofs.Clears.{both_clear}
@@ -24,19 +24,19 @@ use Rattle.header.proofs.Accepted.{types_few, same_samples, skew_inside}
 use Rattle.layout.specs.Indexes.{place_fault}
 use Rattle.layout.proofs.Facts.{kept}
 use Rattle.layout.proofs.Inverses.{place_clear, place_asked}
-use Rattle.parts.specs.Slices.{slice, part}
+use Rattle.parts.specs.Slices.{Slice, slice, part}
 use Rattle.skew.specs.Skews.{source, skew_place, sheet_holds, skew_fault, skew_of, skew_byte, skew_byte_fault}
 use Rattle.skew.specs.Times.{time_fault}
 
 -- what a question for skew that is not refused tells: scan type t counts from 1
 pub record Asked (b sheet : List ℕ) (t : ℕ) : Type 0 where
-  pub accepts : header_fault b ≡ Clear
+  pub accepts : header_fault b ≡ Ok tt
   pub least : 1 ≤ t
   pub greatest : t ≤ scan_types b
   pub small : t ≤ 99
   pub holds : sheet_holds b sheet ≡ true
 
-pub skew_asked : (b sheet : List ℕ) (t : ℕ) → skew_fault b sheet t ≡ Clear → Asked b sheet t
+pub skew_asked : (b sheet : List ℕ) (t : ℕ) → skew_fault b sheet t ≡ Ok tt → Asked b sheet t
 unfolding skew_fault
 skew_asked b sheet t e =
     let p = both_clear (header_fault b) _ e in
@@ -44,7 +44,7 @@ skew_asked b sheet t e =
     let w = within_is 1 t (scan_types b) (kept (within 1 t (scan_types b)) Index q.0) in
     record { accepts = p.0; least = w.0; greatest = w.1; small = omega (arith, w.1, (types_few b p.0).1); holds = kept (sheet_holds b sheet) Sheet q.1 }
 
-pub byte_asked : (b sheet : List ℕ) (t k : ℕ) → skew_byte_fault b sheet t k ≡ Clear → Asked b sheet t × (k < samples_of b (t - 1))
+pub byte_asked : (b sheet : List ℕ) (t k : ℕ) → skew_byte_fault b sheet t k ≡ Ok tt → Asked b sheet t × (k < samples_of b (t - 1))
 unfolding skew_byte_fault
 byte_asked b sheet t k e =
     let p = both_clear (place_fault b t k) _ e in
@@ -53,7 +53,7 @@ byte_asked b sheet t k e =
     (record { accepts = v.0; least = w.0; greatest = w.1; small = omega (arith, w.1, (types_few b v.0).1); holds = kept (sheet_holds b sheet) Sheet p.1 }, w.2)
 
 -- the skew bytes of scan type t, counting from 0
-pub skew_fits : (b sheet : List ℕ) (t : ℕ) → header_fault b ≡ Clear → t < scan_types b → sheet_holds b sheet ≡ true → skew_place b t + samples_of b t ≤ length (source b b sheet)
+pub skew_fits : (b sheet : List ℕ) (t : ℕ) → header_fault b ≡ Ok tt → t < scan_types b → sheet_holds b sheet ≡ true → skew_place b t + samples_of b t ≤ length (source b b sheet)
 unfolding skew_place source sheet_holds pick
 skew_fits b sheet t e h = by_test (eqb (skew_fields b) 0) refl
   where
@@ -78,8 +78,11 @@ source_bytes b sheet p q = by_test (eqb (skew_fields b) 0)
     by_test true = refl
     by_test false = refl
 
+pub lent_bytes : (b sheet : List ℕ) (p q r : ℕ × ℕ) (l : List ℕ) → slice r l ≡ source b (slice p b) (slice q sheet) → l ≡ source b b sheet
+lent_bytes b sheet p q r l e = ap (λ (s : Slice). s.bytes) e ∙ source_bytes b sheet p q
+
 -- a question for a time that is not refused
-pub time_clear : (b sheet : List ℕ) (t k T : ℕ) → time_fault b sheet t k T ≡ Clear → (skew_byte_fault b sheet t k ≡ Clear) × (T < 2 ^ 24)
+pub time_clear : (b sheet : List ℕ) (t k T : ℕ) → time_fault b sheet t k T ≡ Ok tt → (skew_byte_fault b sheet t k ≡ Ok tt) × (T < 2 ^ 24)
 unfolding time_fault skew_byte_fault
 time_clear b sheet t k T e =
     let p = both_clear (place_fault b t k) _ e in

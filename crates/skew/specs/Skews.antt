@@ -1,10 +1,8 @@
 -- The skew bytes of a scan type, one for each sample of a scan. Scan type t counts from 1
 -- in what a question asks (skew_fault, skew_part, skew_byte_fault, skew_answer), and from 0 elsewhere.
 -- Assumes nothing.
-use Rattle.std.specs.Prelude.{ℕ, ◌+◌, ◌*◌, ◌-◌, Bool, not, ◌||◌, List, eqb, length, get_or}
+use Rattle.std.specs.Prelude.{ℕ, ◌+◌, ◌*◌, ◌-◌, Bool, not, ◌||◌, List, eqb, length, get_or, Err, Ok, Result, ⊤}
 use Rattle.basis.specs.Choice.{pick}
-use Rattle.refusals.specs.declared.Fault.{Fault}
-use Rattle.refusals.specs.declared.Fault.TheVariants.{Clear, At}
 use Rattle.refusals.specs.declared.Refusal.TheVariants.{Index, Sheet}
 use Rattle.refusals.specs.Order.{when, or_else}
 use Rattle.general.specs.General.{scan_types, channel_sets, skew_fields, within}
@@ -12,10 +10,9 @@ use Rattle.sets.specs.Descriptors.{descriptor_place}
 use Rattle.sets.specs.Samples.{samples_of}
 use Rattle.header.specs.Faults.{header_fault}
 use Rattle.layout.specs.Indexes.{place_fault}
-use Rattle.skew.specs.declared.Skewed.{Skewed}
-use Rattle.skew.specs.declared.Skewed.TheVariants.{Skew, NoSkew}
 use Rattle.parts.specs.Slices.{Slice, part}
 use Rattle.parts.specs.Parts.{part_after}
+use Rattle.refusals.specs.declared.Refusal.{Refusal}
 
 -- "Where SK is 0 the skew comes from the crew's sheet lent beside the block", else from the block
 unfoldable pub source : {A : Type 0} → List ℕ → A → A → A
@@ -30,7 +27,7 @@ unfoldable pub sheet_holds : List ℕ → List ℕ → Bool
 sheet_holds b sheet = not (eqb (skew_fields b) 0) || eqb (length sheet) (scan_types b * samples_of b 0)
 
 -- "Questions: header, 11, 12"
-unfoldable pub skew_fault : List ℕ → List ℕ → ℕ → Fault
+unfoldable pub skew_fault : List ℕ → List ℕ → ℕ → Result ⊤ Refusal
 skew_fault b sheet t =
     or_else (header_fault b) (or_else (when (not (within 1 t (scan_types b))) Index) (when (not (sheet_holds b sheet)) Sheet))
 
@@ -47,14 +44,14 @@ unfoldable pub skew_byte : List ℕ → List ℕ → ℕ → ℕ → ℕ
 skew_byte b sheet t k = get_or (source b b sheet) (skew_place b t + k) 0
 
 -- "Questions: header, 11, 12", of one sample
-unfoldable pub skew_byte_fault : List ℕ → List ℕ → ℕ → ℕ → Fault
+unfoldable pub skew_byte_fault : List ℕ → List ℕ → ℕ → ℕ → Result ⊤ Refusal
 skew_byte_fault b sheet t k = or_else (place_fault b t k) (when (not (sheet_holds b sheet)) Sheet)
 
 -- the skew byte, or why there is none
-abbrev pub skew_after : Fault → ℕ → Skewed
-skew_after Clear x = Skew x
-skew_after (At r) x = NoSkew r
+abbrev pub skew_after : Result ⊤ Refusal → ℕ → Result ℕ Refusal
+skew_after (Ok tt) x = Ok x
+skew_after (Err r) x = Err r
 
 -- SS of sample k of scan type t, counting from 1
-unfoldable pub skew_answer : List ℕ → List ℕ → ℕ → ℕ → Skewed
+unfoldable pub skew_answer : List ℕ → List ℕ → ℕ → ℕ → Result ℕ Refusal
 skew_answer b sheet t k = skew_after (skew_byte_fault b sheet t k) (skew_byte b sheet (t - 1) k)

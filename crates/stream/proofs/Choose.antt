@@ -1,12 +1,11 @@
 -- Which loop runs a code's words.
 -- Assumes nothing.
+use Rattle.std.specs.Prelude.{None, Option, Some}
 use Rattle.std.proofs.Common.{◌≡◌, ℕ, suc, ◌*◌, ◌<◌, Bool, true, false, ◌||◌, T, eqb, leb, List, sym, refl, ap, ◌∙◌, one-mul, arith, eqb→eq, ne_eqb, eqb-true}
 use borrow.Author.Tests.{lt-leb}
 use Rattle.basis.specs.Choice.{pick}
 use Rattle.basis.specs.Digits.{byte_in}
 use Rattle.codes.specs.declared.Row.{Row}
-use Rattle.codes.specs.declared.Found.{Found}
-use Rattle.codes.specs.declared.Found.TheVariants.{At, Nothing}
 use Rattle.codes.specs.Codes.{table, find_in, row_of, group_in, group_of}
 use Rattle.codes.proofs.Rows.{holds, row_code, group_none}
 use Rattle.words.specs.Words.{value_of}
@@ -48,7 +47,7 @@ six r =
     leb 0x8000 r.code
     || (eqb r.code 0x0024 || (eqb r.code 0x0044 || (eqb r.code 0x0048 || (eqb r.code 0x0015 || (eqb r.code 0x0022 || eqb r.code 0x0042)))))
 
-all_six : (code : ℕ) (r : Row) → row_of code ≡ At r → T (six r)
+all_six : (code : ℕ) (r : Row) → row_of code ≡ Some r → T (six r)
 unfolding row_of find_in table
 all_six code r e = holds six table code r tt e
 
@@ -77,9 +76,9 @@ narrow code w g low some n24 n44 n48 n15 = go (row_of code) refl
         let z = eqb→eq code 0x0042 h in
         record { width = width_is 0x0042 1 g z group42; one = is42 z }
 
-    go : (f : Found) → row_of code ≡ f → Narrow code w
-    go Nothing e = absurd (omega (arith, g, group_none code e))
-    go (At r) e =
+    go : (f : Option Row) → row_of code ≡ f → Narrow code w
+    go None e = absurd (omega (arith, g, group_none code e))
+    go (Some r) e =
         let t : T (leb 0x8000 r.code || (eqb r.code 0x0024 || (eqb r.code 0x0044 || (eqb r.code 0x0048 || (eqb r.code 0x0015 || (eqb r.code 0x0022 || eqb r.code 0x0042)))))) = all_six code r e in
         two (eqb code 0x0022) refl (rw (row_code code r e, lt-leb 0x8000 code low, ne_eqb code 0x0024 n24, ne_eqb code 0x0044 n44, ne_eqb code 0x0048 n48, ne_eqb code 0x0015 n15) at t)
 

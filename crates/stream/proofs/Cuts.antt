@@ -25,7 +25,7 @@ module _ (s : State) (bs : List ℕ) (room : ℕ) (r : 2 * length bs ≤ room) w
   fit_state : (fit_portion s bs room).state ≡ after s bs
   unfolding fit_portion fed pick
   fit_state =
-      pick_cases (λ (g : Gave). g.state ≡ after s bs) (eqb s.stop 0) (λ e. rw (le-ltb room (2 * length bs) r)) (λ e. sym (after_stopped s bs e))
+      pick_cases (λ (g : Gave State). g.state ≡ after s bs) (eqb s.stop 0) (λ e. rw (le-ltb room (2 * length bs) r)) (λ e. sym (after_stopped s bs e))
 
   fit_wrote_lem : fit_wrote s bs room ≡ wrote s bs
   unfolding fit_wrote pick
@@ -55,5 +55,5 @@ module _ (s : State) (a b : List ℕ) (f : fitb s ≡ true) (ra rb r : ℕ) (ha 
 pub portion_fit : (s : State) (bs : List ℕ) (room : ℕ) → fitb s ≡ true → fitb (portion s bs room).state ≡ true
 unfolding portion fit_portion fed unchanged
 portion_fit s bs room f =
-    let P : Gave → Type 0 = λ g. fitb g.state ≡ true in
+    let P : Gave State → Type 0 = λ g. fitb g.state ≡ true in
     pick_both P _ (pick_both P _ (pick_both P _ f (of_fit (after s bs) (fit_after s bs (fit_of s f)))) f) f

@@ -1,9 +1,10 @@
 -- What the loop of `feed` keeps, and where it ends.
 -- Assumes nothing.
-use Rattle.std.proofs.Common.{◌≡◌, ℕ, ◌+◌, ◌*◌, ◌<◌, ◌≤◌, true, false, List, [], ◌∷◌, ◌++◌, length, get_or, take, drop, set, ℤ, sym, refl, ap, ◌∙◌, append_assoc, append-nil, add-one, arith, length-append, length-drop, length-set, take-append-drop, drop_of_length-le, length-take-le, drop-cons, drop-drop, take_at, drop_at}
+use Rattle.std.proofs.Common.{◌≡◌, ℕ, ◌+◌, ◌*◌, ◌<◌, ◌≤◌, List, [], ◌∷◌, ◌++◌, length, get_or, take, drop, set, ℤ, sym, refl, ap, ◌∙◌, append_assoc, append-nil, add-one, arith, length-append, length-drop, length-set, take-append-drop, drop_of_length-le, length-take-le, drop-cons, drop-drop, take_at, drop_at}
 use Rattle.scan.specs.declared.State.{State}
 use Rattle.scan.specs.declared.Stepped.{Stepped}
-use Rattle.basis.specs.Choice.{pick}
+use Rattle.std.specs.Prelude.{None, Some}
+use Rattle.words.specs.declared.Value.{Value}
 use Rattle.scan.specs.Fit.{Fit}
 use Rattle.scan.specs.Step.{step, after, wrote, m_and_x}
 use Rattle.runs.specs.Runs.{over}
@@ -25,15 +26,15 @@ pub record Going (bs : List ℕ) (out₀ : List ℤ) (s : State) (out : List ℤ
 pub going_start : (bs : List ℕ) (out : List ℤ) (s : State) → Fit s → Going bs out s out s 0 0
 going_start bs out s f = record { fit = f; shape = refl; in_bytes = omega arith; in_out = omega arith; same = refl; state = refl; front = refl; back = refl }
 
-pair_none : (W : List ℤ) (r : Stepped) → r.completed ≡ false → W ++ m_and_x r ≡ W
-unfolding m_and_x pick
+pair_none : (W : List ℤ) (r : Stepped State) → r.value ≡ None → W ++ m_and_x r ≡ W
+unfolding m_and_x
 pair_none W r q = rw (q, append-nil)
 
-pair_some : (W : List ℤ) (r : Stepped) → r.completed ≡ true → W ++ m_and_x r ≡ W ++ (r.value.m ∷ r.value.x ∷ [])
-unfolding m_and_x pick
-pair_some W r q = rw q
+pair_some : (W : List ℤ) (r : Stepped State) (v : Value) → r.value ≡ Some v → W ++ m_and_x r ≡ W ++ (v.m ∷ v.x ∷ [])
+unfolding m_and_x
+pair_some W r v q = rw q
 
-module _ (bs : List ℕ) (out₀ : List ℤ) (s : State) (out : List ℤ) (t : State) (n i : ℕ) (r : Stepped) where
+module _ (bs : List ℕ) (out₀ : List ℤ) (s : State) (out : List ℤ) (t : State) (n i : ℕ) (r : Stepped State) where
   next_state : i < length bs → r ≡ step t (get_or bs i 0) → after t (drop i bs) ≡ after s bs → after r.state (drop (i + 1) bs) ≡ after s bs
   unfolding after
   next_state h e g = rw (e, add-one) (rw (drop-cons bs i 0) at g)
@@ -42,7 +43,7 @@ module _ (bs : List ℕ) (out₀ : List ℤ) (s : State) (out : List ℤ) (t : S
   unfolding wrote
   next_front W h e g = rw (e, add-one, append_assoc) (rw (drop-cons bs i 0) at g)
 
-  pub going_quiet : Going bs out₀ s out t n i → i < length bs → r ≡ step t (get_or bs i 0) → r.completed ≡ false → Going bs out₀ s out r.state n (i + 1)
+  pub going_quiet : Going bs out₀ s out t n i → i < length bs → r ≡ step t (get_or bs i 0) → r.value ≡ None → Going bs out₀ s out r.state n (i + 1)
   going_quiet g h e q =
       record {
         fit = rw e (fit_step t (get_or bs i 0) g.fit);
@@ -55,8 +56,8 @@ module _ (bs : List ℕ) (out₀ : List ℤ) (s : State) (out : List ℤ) (t : S
         back = g.back;
       }
 
-  pub going_wrote : Going bs out₀ s out t n i → 2 * length bs ≤ length out₀ → i < length bs → r ≡ step t (get_or bs i 0) → r.completed ≡ true → Going bs out₀ s (set (set out n r.value.m) (n + 1) r.value.x) r.state (n + 2) (i + 1)
-  going_wrote g room h e q =
+  pub going_wrote : (v : Value) → Going bs out₀ s out t n i → 2 * length bs ≤ length out₀ → i < length bs → r ≡ step t (get_or bs i 0) → r.value ≡ Some v → Going bs out₀ s (set (set out n v.m) (n + 1) v.x) r.state (n + 2) (i + 1)
+  going_wrote v g room h e q =
       record {
         fit = rw e (fit_step t (get_or bs i 0) g.fit);
         shape = rw e (shape_step t (get_or bs i 0)) ∙ g.shape;
@@ -64,8 +65,8 @@ module _ (bs : List ℕ) (out₀ : List ℤ) (s : State) (out : List ℤ) (t : S
         in_out = omega arith;
         same = simp length-set g.same;
         state = next_state h e g.state;
-        front = ap (λ (l : List ℤ). l ++ wrote r.state (drop (i + 1) bs)) (take_two out n r.value.m r.value.x (omega (arith, g.same)) ∙ sym (pair_some (take n out) r q)) ∙ next_front (take n out) h e g.front;
-        back = drop_two out n r.value.m r.value.x ∙ further n 2 out out₀ g.back;
+        front = ap (λ (l : List ℤ). l ++ wrote r.state (drop (i + 1) bs)) (take_two out n v.m v.x (omega (arith, g.same)) ∙ sym (pair_some (take n out) r v q)) ∙ next_front (take n out) h e g.front;
+        back = drop_two out n v.m v.x ∙ further n 2 out out₀ g.back;
       }
 
 pub record Gone (bs : List ℕ) (out₀ : List ℤ) (s : State) (out : List ℤ) (t : State) (n : ℕ) : Type 0 where

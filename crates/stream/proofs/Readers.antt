@@ -1,8 +1,8 @@
 -- The groups of a code's words.
 -- Assumes nothing.
+use Rattle.std.specs.Prelude.{Some}
 use Rattle.std.proofs.Common.{◌≡◌, ℕ, zero, suc, ◌<◌, ◌≤◌, refl, mul-le-mul_right, arith}
 use Rattle.codes.specs.declared.Row.{Row}
-use Rattle.codes.specs.declared.Found.TheVariants.{At}
 use Rattle.codes.specs.Codes.{row_of, group_of, per_of, lead_of, word_bytes_of}
 use Rattle.codes.proofs.Rows.{Words, alone, fours, sized, some_sized}
 use Rattle.scan.specs.declared.State.{State}
@@ -35,7 +35,7 @@ per_one code p h = go (some_sized code p).words
     go (fours e f g i) = absurd (h e)
 
 -- a code with a row has groups of some bytes
-pub row_some : (code : ℕ) (r : Row) → row_of code ≡ At r → 0 < group_of code
+pub row_some : (code : ℕ) (r : Row) → row_of code ≡ Some r → 0 < group_of code
 row_some code r e = let s = sized code r e in omega (arith, s.sum, s.wide, mul-le-mul_right (word_bytes_of code) s.some)
 
 -- the groups of a state that fits

@@ -1,15 +1,13 @@
 -- A byte of the sample words, by where it stands in its word.
 -- Assumes nothing.
-use Rattle.std.proofs.Common.{◌≡◌, ℕ, ◌-◌, ◌%◌, ◌<◌, ◌≤◌, Bool, true, false, eqb, sym, refl, ◌∙◌, arith, eqb-true}
+use Rattle.std.proofs.Common.{◌≡◌, ℕ, ◌-◌, ◌%◌, Bool, true, false, eqb, sym, refl, ◌∙◌, arith, eqb-true}
 use mathlib.Core.Bool.{false≢true}
-use borrow.Author.Tests.{eqb-false}
 use Rattle.basis.specs.Choice.{pick}
 use Rattle.codes.specs.Codes.{group_of}
 use Rattle.words.specs.Words.{value_of}
 use Rattle.scan.specs.declared.State.{State}
 use Rattle.scan.specs.Step.{word, plain, grouped, quiet, still, sample, moved, shift, low}
 use Rattle.stream.specs.Spots.{word_ends, leads, exponent, word_bytes}
-use Rattle.stream.proofs.Readers.{group_plain}
 
 -- what a byte of groups of w bytes does
 data Does (s : State) (b w q : ℕ) : Type 0 where
@@ -59,12 +57,3 @@ module _ (s : State) (b w q : ℕ) (g : group_of s.shape.code ≡ w) where
       go (gives x y) = absurd (clash (word_ends w q) x e)
       go (lead x y z) = absurd (clash (leads w q) y l)
       go (none x y z) = z
-
--- a word has one, two or four bytes
-pub word_bytes_low : (code w : ℕ) → group_of code ≡ w → 0 < w → (0 < word_bytes w) × (word_bytes w ≤ 4) × (word_bytes w ≡ 3 → ⊥)
-unfolding word_bytes pick
-word_bytes_low code w g p = go (eqb w 10) refl
-  where
-    go : (t : Bool) → eqb w 10 ≡ t → (0 < pick t 2 w) × (pick t 2 w ≤ 4) × (pick t 2 w ≡ 3 → ⊥)
-    go true e = (omega arith, omega arith, λ x. omega arith)
-    go false e = let n : w ≡ 10 → ⊥ = eqb-false w 10 e in let h = rw g at (group_plain code (omega (arith, g)) (λ k. n (sym g ∙ k))) in h

@@ -26,7 +26,7 @@ unfolding after wrote
 goes_none s = record { state = refl; list = refl }
 
 goes_on : (s t u : State) (b : ℕ) (bs : List ℕ) → step s b ≡ still t → Goes t bs u → Goes s (b ∷ bs) u
-unfolding after wrote m_and_x pick still
+unfolding after wrote m_and_x still
 goes_on s t u b bs e g = record { state = rw e g.state; list = rw e g.list }
 
 -- ---- one byte of a start, by its place in the scan

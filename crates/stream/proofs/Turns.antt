@@ -1,7 +1,7 @@
 -- A run of bytes in closed form: one law for all widths, by what each byte's step does.
 -- Assumes nothing.
-use Rattle.std.proofs.Common.{◌≡◌, ℕ, zero, suc, ◌+◌, ◌<◌, ◌≤◌, true, List, [], ◌∷◌, ◌++◌, length, get_or, take, refl, ap, append-nil, arith, take-suc}
-use Rattle.basis.specs.Choice.{pick}
+use Rattle.std.specs.Prelude.{Some}
+use Rattle.std.proofs.Common.{◌≡◌, ℕ, zero, suc, ◌+◌, ◌<◌, ◌≤◌, List, [], ◌∷◌, ◌++◌, length, get_or, take, refl, ap, append-nil, arith, take-suc}
 use Rattle.basis.specs.Upto.{upto}
 use Rattle.words.specs.declared.Value.{Value}
 use Rattle.runs.specs.Runs.{numbers}
@@ -23,7 +23,7 @@ wrote_one s b = append-nil (m_and_x (step s b))
 module _ (bs : List ℕ) (F : ℕ → State) (D : ℕ → ℕ) (f : ℕ → Value) where
   pub data Turn (i : ℕ) : Type 0 where
     quietly : step (F i) (get_or bs i 0) ≡ still (F (suc i)) → D (suc i) ≡ D i → Turn i
-    giving : step (F i) (get_or bs i 0) ≡ record { state = F (suc i); completed = true; value = f (D i) } → D (suc i) ≡ D i + 1 → Turn i
+    giving : step (F i) (get_or bs i 0) ≡ record { state = F (suc i); value = Some (f (D i)) } → D (suc i) ≡ D i + 1 → Turn i
 
   pub record SoFar (i : ℕ) : Type 0 where
     pub state : after (F 0) (take i bs) ≡ F i
@@ -36,11 +36,11 @@ module _ (bs : List ℕ) (F : ℕ → State) (D : ℕ → ℕ) (f : ℕ → Valu
   next_list i h s e = rw (take-suc bs i 0 h, wrote_append (F 0) (take i bs) (get_or bs i 0 ∷ []), s.state, s.list, wrote_one (F i) (get_or bs i 0)) e
 
   more : (i : ℕ) → i < length bs → Turn i → SoFar i → SoFar (suc i)
-  unfolding m_and_x pick still
+  unfolding m_and_x still
   more i h (quietly e d) s =
-      record { state = next_state i h s (ap (λ (r : Stepped). r.state) e); list = next_list i h s (rw (e, d, append-nil)) }
+      record { state = next_state i h s (ap (λ (r : Stepped State). r.state) e); list = next_list i h s (rw (e, d, append-nil)) }
   more i h (giving e d) s =
-      record { state = next_state i h s (ap (λ (r : Stepped). r.state) e); list = next_list i h s (rw (e, d, numbers_more f (D i))) }
+      record { state = next_state i h s (ap (λ (r : Stepped State). r.state) e); list = next_list i h s (rw (e, d, numbers_more f (D i))) }
 
   pub so_far : ((i : ℕ) → i < length bs → Turn i) → D 0 ≡ 0 → (i : ℕ) → i ≤ length bs → SoFar i
   unfolding after wrote numbers upto

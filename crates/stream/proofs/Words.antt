@@ -1,5 +1,6 @@
 -- Words of one scan against the step of each of their bytes.
 -- Assumes nothing.
+use Rattle.std.specs.Prelude.{Some}
 use Rattle.std.proofs.Common.{◌≡◌, ℕ, zero, suc, ◌+◌, ◌-◌, ◌*◌, ◌/◌, ◌%◌, ◌<◌, ◌≤◌, Bool, true, false, eqb, List, length, get_or, sym, refl, ap, ◌∙◌, add-zero, add_assoc, add-suc, mod-eq_of_lt, div-add-mod', zero-add, add-one, arith, le-ltb, eq-eqb, ne_eqb, eqb-true}
 use native.Mathlib.Nat.{suc-mod, mod_self, mod-add-mod}
 use borrow.Author.Tests.{eqb-false}
@@ -56,8 +57,8 @@ step_word t b q hs hp hq h8 =
     )
 
 -- a sample completed
-abbrev gave : State → Value → Stepped
-gave t x = record { state = t; completed = true; value = x }
+abbrev gave : State → Value → Stepped State
+gave t x = record { state = t; value = Some x }
 
 -- a byte of a run that may be taken at once: where it stands, and the states that follow it
 module _ (s : State) (bs : List ℕ) (w : ℕ) (a : Able s w (length bs)) (i : ℕ) (h : i < length bs) where

@@ -23,11 +23,11 @@ samples_told (Stopped n r) = n
 samples_told (Refused r) = 0
 
 -- "13 and 23 change nothing and stop nothing"
-unfoldable pub unchanged : State → Refusal → Gave
+unfoldable pub unchanged : {S : Type 0} → S → Refusal → Gave S
 unchanged s r = record { state = s; answer = Refused r }
 
 -- a portion with room enough: its bytes one by one
-unfoldable pub fed : State → List ℕ → Gave
+unfoldable pub fed : State → List ℕ → Gave State
 fed s bs = record { state = after s bs; answer = answered (after s bs) (length (wrote s bs)) }
 
 -- "A portion needs twice its length in output numbers"
@@ -35,14 +35,14 @@ abbrev pub lacks_room : ℕ → ℕ → Bool
 lacks_room room bytes = nat_lt room (2 * bytes)
 
 -- of a fit state: an earlier stop; ROOM, where fewer numbers than twice the bytes are lent
-unfoldable pub fit_portion : State → List ℕ → ℕ → Gave
+unfoldable pub fit_portion : State → List ℕ → ℕ → Gave State
 fit_portion s bs room =
     pick (s.stop == 0)
     (pick (lacks_room room (length bs)) (unchanged s R.Room) (fed s bs))
     (record { state = s; answer = answered s 0 })
 
 -- STATE comes first
-unfoldable pub portion : State → List ℕ → ℕ → Gave
+unfoldable pub portion : State → List ℕ → ℕ → Gave State
 portion s bs room = pick (fitb s) (fit_portion s bs room) (unchanged s R.State)
 
 -- the numbers that a portion writes from a fit state

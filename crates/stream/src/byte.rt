@@ -1,44 +1,39 @@
 // One byte of a body, by its place in the scan.
 ghost use Rattle.std.specs.Prelude.{◌≡◌, ◌+◌, ◌<◌, ◌≤◌, ◌≢◌};
 ghost use Rattle.scan.specs.Step as Step;
-ghost use Rattle.scan.specs.Fit.{Fit};
 ghost use Rattle.codes.specs.Codes.{group_of};
-ghost use Rattle.words.specs.Words.{off_one};
 ghost use Rattle.stream.specs.Spots as Spots;
 
+use crate::reading::Reading;
 use scan::{Shape, State, Stepped, Track};
 use words::Value;
 
 // A state as it is, with nothing written.
-fn still(s: State) -> Stepped
+pub fn still<S>(s: S) -> Stepped<S>
     ensures { result ≡ Step.still s }
 {
     Stepped {
         state: s,
-        completed: false,
-        value: Value {
-            m: 0,
-            x: 0,
-            off: false,
-        },
+        value: None,
     }
 }
 
-// The body stops here, by the refusal of this number.
-fn halt(s: State, number: u32) -> Stepped
+// The body stops here, by the refusal of this number, which is what the state keeps: C holds it.
+fn halt(s: State, number: u32) -> Stepped<State>
     ensures { result ≡ Step.halt s number }
 {
-    let mut t = s;
-    t.stop = number;
-    t.stopat = t.place;
-    still(t)
+    still(State {
+        stop: number,
+        stopat: s.place,
+        ..s
+    })
 }
 
 // The last four bytes, after one more.
-pub(crate) fn shift(held: u32, b: u8) -> u32
+pub fn shift(held: u32, b: u8) -> u32
     ensures { result ≡ Step.shift held b }
 {
-    held % 16777216 * 256 + b as u32
+    held % 16777216 * 256 + u32::from(b)
 }
 
 // One byte on.
@@ -46,17 +41,18 @@ pub(crate) fn moved(s: State, k: Track, e: u32, off: u32, b: u8) -> State
     requires { s.place < 4294967295 }
     ensures { result ≡ Step.moved s k e off b }
 {
-    let mut t = s;
-    t.place = t.place + 1;
-    t.off = off;
-    t.track = k;
-    t.held = shift(t.held, b);
-    t.exponents = e;
-    t
+    State {
+        place: s.place + 1,
+        off,
+        track: k,
+        held: shift(s.held, b),
+        exponents: e,
+        ..s
+    }
 }
 
 // A byte that tells nothing by itself: the place and the last four bytes move on.
-fn quiet(s: State, b: u8) -> Stepped
+fn quiet(s: State, b: u8) -> Stepped<State>
     requires { s.place < 4294967295 }
     ensures { result ≡ Step.quiet s b }
 {
@@ -75,7 +71,7 @@ pub(crate) fn full(h: Shape, place: u32, ends: u32) -> bool
 }
 
 // Bytes 1 to 3 of a scan.
-fn sync(s: State, b: u8) -> Stepped
+fn sync(s: State, b: u8) -> Stepped<State>
     requires { s.place < 4294967295 }
     ensures { result ≡ Step.sync s b }
 {
@@ -83,7 +79,7 @@ fn sync(s: State, b: u8) -> Stepped
 }
 
 // The first byte of a scan: BLOCK, then its sync.
-fn start(s: State, b: u8) -> Stepped
+fn start(s: State, b: u8) -> Stepped<State>
     requires { (s.place < 4294967295) × (8 ≤ s.shape.scan) }
     ensures { result ≡ Step.start s b }
 {
@@ -100,7 +96,7 @@ pub(crate) fn typed(k: Track, b: u8) -> Track
     ensures { result ≡ Step.typed k b }
 {
     let mut t = k;
-    let n = b as u32;
+    let n = u32::from(b);
     if k.seen == 0 {
         t.seen = 1;
         t.itb = n / 32 % 2;
@@ -126,7 +122,7 @@ pub(crate) fn phased(k: Track, types: u32, b: u8) -> bool
 }
 
 // Byte 4 of a scan: its last bits 01, then DP.
-fn phase(s: State, b: u8) -> Stepped
+fn phase(s: State, b: u8) -> Stepped<State>
     requires { (s.place < 4294967295) × (s.track.seen ≤ 99) }
     ensures { result ≡ Step.phase s b }
 {
@@ -167,11 +163,11 @@ pub(crate) fn instep(s: State, b: u8) -> bool
     if s.place < s.shape.scan {
         return true;
     }
-    shift(s.held, b) == std::num::wrapping_add_u32(s.track.timing, s.shape.advance)
+    shift(s.held, b) == s.track.timing.wrapping_add(s.shape.advance)
 }
 
 // Byte 8 of a scan: in step, or TIMING.
-fn time(s: State, b: u8) -> Stepped
+fn time(s: State, b: u8) -> Stepped<State>
     requires { s.place < 4294967295 }
     ensures { result ≡ Step.time s b }
 {
@@ -183,45 +179,34 @@ fn time(s: State, b: u8) -> Stepped
 }
 
 // The last w bytes.
-fn low(held: u32, w: u32) -> u32
-    requires { (0 < w) × (w ≤ 4) × (w ≢ 3) }
+pub fn low(held: u32, w: u32) -> u32
     ensures { result ≡ Step.low held w }
 {
-    if w == 1 {
-        return held % 256;
+    match w {
+        0 => 0,
+        1 => held % 256,
+        2 => held % 65536,
+        3 => held % 16777216,
+        _ => held,
     }
-    if w == 2 {
-        return held % 65536;
-    }
-    held
 }
 
 // The exponent of the word that ends at byte g of its group.
-fn nibble(e: u32, g: u32) -> u32
-    requires { g < 10 }
+pub fn nibble(e: u32, g: u32) -> u32
     ensures { result ≡ Step.nibble e g }
 {
-    (e >> (18 - 2 * g)) % 16
-}
-
-// Off-rule words, with one word more.
-fn count(off: u32, w: Value) -> u32
-    requires { off < 4294967295 }
-    ensures { result ≡ off + off_one w }
-{
-    if w.off { off + 1 } else { off }
+    (e >> (18 - 2 * g.min(9))) % 16
 }
 
 // The last byte of a word.
-fn sample(s: State, w: Value, b: u8) -> Stepped
+fn sample(s: State, w: Value, b: u8) -> Stepped<State>
     requires { (s.place < 4294967295) × (s.off ≤ s.place) }
     ensures { result ≡ Step.sample s w b }
 {
-    let t = moved(s, s.track, s.exponents, count(s.off, w), b);
+    let off = s.off + u32::from(w.off);
     Stepped {
-        state: t,
-        completed: true,
-        value: w,
+        state: moved(s, s.track, s.exponents, off, b),
+        value: Some(w),
     }
 }
 
@@ -267,7 +252,7 @@ fn word_bytes(w: u32) -> u32
 }
 
 // A byte of the sample words, in groups of w bytes, q its place in the scan.
-fn word(s: State, w: u32, b: u8, q: u32) -> Stepped
+fn word(s: State, w: u32, b: u8, q: u32) -> Stepped<State>
     requires code_value { (group_of s.shape.code ≡ w) × (0 < w) }
     requires place_bound { (s.place < 4294967295) × (s.off ≤ s.place) × (8 ≤ q) }
     ensures { result ≡ Step.word s b q }
@@ -283,32 +268,26 @@ fn word(s: State, w: u32, b: u8, q: u32) -> Stepped
     quiet(s, b)
 }
 
-// One byte, of a code whose groups are of w bytes.
-pub(crate) fn step(s: State, w: u32, b: u8) -> Stepped
-    requires { (Fit s) × (group_of s.shape.code ≡ w) }
-    ensures { result ≡ Step.step s b }
-{
-    if s.stop != 0 {
-        return still(s);
+impl Reading<'_> {
+    // One byte.
+    pub(crate) fn step(self, b: u8) -> Stepped<State>
+        ensures { result ≡ Step.step self.entry.state b }
+    {
+        let s = self.state;
+        if s.stop != 0 {
+            return still(s);
+        }
+        if s.place == u32::MAX {
+            return halt(s, 14);
+        }
+        let q = s.place % s.shape.scan;
+        match q {
+            0 => start(s, b),
+            1..=2 => sync(s, b),
+            3 => phase(s, b),
+            4..=6 => quiet(s, b),
+            7 => time(s, b),
+            _ => word(s, self.group, b, q),
+        }
     }
-    if s.place == 4294967295 {
-        return halt(s, 14);
-    }
-    let q = s.place % s.shape.scan;
-    if q == 0 {
-        return start(s, b);
-    }
-    if q < 3 {
-        return sync(s, b);
-    }
-    if q == 3 {
-        return phase(s, b);
-    }
-    if q < 7 {
-        return quiet(s, b);
-    }
-    if q == 7 {
-        return time(s, b);
-    }
-    word(s, w, b, q)
 }

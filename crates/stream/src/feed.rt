@@ -4,16 +4,13 @@ ghost use Rattle.codes.specs.Codes.{group_of};
 ghost use Rattle.runs.specs.Runs.{over};
 ghost use Rattle.scan.specs.Fit.{Fit};
 ghost use Rattle.scan.specs.Step.{wrote};
-ghost use Rattle.stream.specs.Bulk.{Lent};
 ghost use Rattle.stream.specs.Calls as Calls;
 
-use crate::byte::step;
-use crate::start::{ahead_at, chunk_at};
-use crate::{Answer, Gave};
+use crate::reading::Reading;
+use crate::{Answer, Gave, unchanged};
 use refusals::{Refusal, stop_refusal};
 use scan::State;
-use std::slice;
-use words::{Value, tables};
+use words::Value;
 
 // The answer of a state, after n numbers were written.
 pub(crate) fn answered(s: State, n: usize) -> Answer
@@ -28,89 +25,69 @@ pub(crate) fn answered(s: State, n: usize) -> Answer
     }
 }
 
-// Writes a sample's M and X at n.
-fn put(out: &mut [i32], n: usize, w: Value)
+// Writes a sample's M and X at n. `runs` has its own, by the number of a sample and not its place: to share these two lines they would be public.
+fn put(out: &mut [i32], n: usize, v: Value)
     requires { n + 1 < length out.old }
-    ensures { out.new ≡ slice_set (slice_set out.old n w.m) (n + 1) w.x }
+    ensures { out.new ≡ slice_set (slice_set out.old n v.m) (n + 1) v.x }
 {
-    let m = w.m;
-    let x = w.x;
-    out[n] = m;
-    out[n + 1] = x;
+    out[n] = v.m;
+    out[n + 1] = v.x;
 }
 
-// The bytes of a portion that has room: a scan's start or whole words at once where they lie ahead, else one byte. `step` is called nowhere else, so that it is compiled into this loop.
-fn feed(s: State, w: u32, tables: &[[u64; 256]], bytes: &[u8], out: &mut [i32]) -> Gave
-    requires fit { (Fit s) × (group_of s.shape.code ≡ w) × (Lent s.shape.code w tables.now) }
-    requires bytes_in_bounds { 2 * length bytes.now ≤ length out.old }
-    ensures value { result ≡ Calls.fed s bytes.now }
-    ensures out_after { out.new ≡ over (wrote s bytes.now) out.old }
-{
-    let mut t = s;
-    let mut n: usize = 0;
-    let mut i: usize = 0;
-    while i < bytes.len() {
-        let k = ahead_at(t, w, bytes, i);
-        if k == 0 {
-            let r = step(t, w, bytes[i]);
-            t = r.state;
-            i += 1;
-            if r.completed {
-                let x = r.value;
-                put(out, n, x);
-                n += 2;
+impl Reading<'_> {
+    // The bytes of a portion that has room: a scan's start or whole words at once where they lie ahead, else one byte. `step` is called nowhere else, so that it is compiled into this loop.
+    fn feed(self, bytes: &[u8], out: &mut [i32]) -> Gave<State>
+        requires { 2 * length bytes.now ≤ length out.old }
+        ensures value { result ≡ Calls.fed self.entry.state bytes.now }
+        ensures out_after { out.new ≡ over (wrote self.entry.state bytes.now) out.old }
+    {
+        let mut t = self.state;
+        let mut n: usize = 0;
+        let mut i: usize = 0;
+        // not a `for`: a turn takes one byte, or as many as lie ahead
+        while i < bytes.len() {
+            let there = Reading {
+                state: t,
+                group: self.group,
+                tables: self.tables,
+            };
+            let k = there.ahead_at(bytes, i);
+            if k == 0 {
+                let r = there.step(bytes[i]);
+                t = r.state;
+                i += 1;
+                if let Some(v) = r.value {
+                    put(out, n, v);
+                    n += 2;
+                }
+            } else {
+                let r = there.chunk_at(bytes, i, k, out, n);
+                t = r.state;
+                i += k;
+                n += r.count;
             }
-        } else {
-            let r = chunk_at(t, w, tables, bytes, i, k, out, n);
-            t = r.state;
-            i += k;
-            n += r.count;
+        }
+        Gave {
+            state: t,
+            answer: answered(t, n),
         }
     }
-    let a = answered(t, n);
-    Gave {
-        state: t,
-        answer: a,
-    }
 }
 
-// Where the code's words have one byte, its table is chosen here, once for the portion, and lent to the loop; the other codes are lent none. The three calls differ in the tables alone: LLVM then makes one of
-// them, and compiles the loop into the portion as if it were called from one place, so that the wider codes pay nothing for the tables.
-fn by_table(s: State, w: u32, bytes: &[u8], out: &mut [i32]) -> Gave
-    requires fit { (Fit s) × (group_of s.shape.code ≡ w) }
-    requires bytes_in_bounds { 2 * length bytes.now ≤ length out.old }
-    ensures value { result ≡ Calls.fed s bytes.now }
-    ensures out_after { out.new ≡ over (wrote s bytes.now) out.old }
-{
-    let code = s.shape.code;
-    if code == 0x0022 {
-        return feed(s, w, slice::from_ref(tables::lent_22()), bytes, out);
-    }
-    if code == 0x0042 {
-        return feed(s, w, slice::from_ref(tables::lent_42()), bytes, out);
-    }
-    let none: [[u64; 256]; 0] = [];
-    feed(s, w, &none, bytes, out)
-}
-
-// An earlier stop, then ROOM.
-pub(crate) fn fit_portion(s: State, w: u32, bytes: &[u8], out: &mut [i32]) -> Gave
+// An earlier stop, then ROOM; else the loop, called from this one place, so that LLVM compiles it into the portion. Its table is chosen with this call and no earlier: LLVM would make more of it.
+pub(crate) fn fit_portion(s: State, w: u32, bytes: &[u8], out: &mut [i32]) -> Gave<State>
     requires { (Fit s) × (group_of s.shape.code ≡ w) }
     ensures value { result ≡ Calls.fit_portion s bytes.now (length out.old) }
     ensures out_after { out.new ≡ over (Calls.fit_wrote s bytes.now (length out.old)) out.old }
 {
     if s.stop != 0 {
-        let a = answered(s, 0);
         return Gave {
             state: s,
-            answer: a,
+            answer: answered(s, 0),
         };
     }
     if out.len() / 2 < bytes.len() {
-        return Gave {
-            state: s,
-            answer: Answer::Refused(Refusal::Room),
-        };
+        return unchanged(s, Refusal::Room);
     }
-    by_table(s, w, bytes, out)
+    Reading::new(s, w).feed(bytes, out)
 }

@@ -1,5 +1,6 @@
 -- A state that fits a header block, as a test and as facts; and what an accepted header says of its code.
 -- Assumes nothing.
+use Rattle.std.specs.Prelude.{Ok}
 use Prim.Native.Nat.{ℕ, ◌-◌, ◌<◌}
 use mathlib.Core.Path.{◌≡◌, ap, ◌∙◌}
 use mathlib.Core.Bool.{Bool, true}
@@ -9,7 +10,6 @@ use lib.Dec.{leb, eqb}
 use borrow.Author.Tests.{leb-true, eqb-true, le-leb, eq-eqb}
 use Rattle.basis.specs.Choice.{◌and◌}
 use Rattle.basis.proofs.Choices.{and_true, both_true}
-use Rattle.refusals.specs.declared.Fault.TheVariants.{Clear}
 use Rattle.codes.specs.Codes.{group_of, per_of, lead_of, word_bytes_of}
 use Rattle.codes.proofs.Rows.{Words, alone, fours}
 use Rattle.general.specs.General.{code_of}
@@ -21,7 +21,7 @@ use Rattle.trace.specs.declared.State.{State}
 use Rattle.trace.specs.Step.{look_by, look_at}
 use Rattle.trace.specs.Fit.{Fit, fitb, fit_by, boundsb, restb, own_by, stopb}
 
-pub group_some : (b : List ℕ) → header_fault b ≡ Clear → 0 < group_of (code_of b)
+pub group_some : (b : List ℕ) → header_fault b ≡ Ok tt → 0 < group_of (code_of b)
 group_some b e = go (sizes b e).words
   where
     go : Words (group_of (code_of b)) (per_of (code_of b)) (lead_of (code_of b)) (word_bytes_of (code_of b)) → 0 < group_of (code_of b)

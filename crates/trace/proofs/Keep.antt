@@ -13,12 +13,12 @@ use Rattle.turns.specs.declared.Turn.{Turn}
 use Rattle.scan.specs.Step.{low}
 use Rattle.trace.specs.declared.Look.{Look}
 use Rattle.trace.specs.declared.State.{State}
-use Rattle.trace.specs.declared.Stepped.{Stepped}
+use Rattle.scan.specs.declared.Stepped.{Stepped}
 use Rattle.trace.specs.Fit.{Fit, stopb}
 use Rattle.trace.specs.Step.{look_at, step, step_on, after, still, halt, halted, moved_by, moved, quiet, headed, sample, plain, grouped, word}
 
 module _ (b : List ℕ) where
-  Keeps : Stepped → Type 0
+  Keeps : Stepped State → Type 0
   Keeps r = Fit b r.state
 
   fit_still : {s : State} → Fit b s → Keeps (still s)
@@ -103,7 +103,7 @@ module _ (b : List ℕ) where
   fit_after s (x ∷ bs) f = fit_after (step_on b s x).state bs (fit_step s x f)
 
   -- no byte changes the number of the trace
-  abbrev Held : ℕ → Stepped → Type 0
+  abbrev Held : ℕ → Stepped State → Type 0
   Held n r = r.state.ends ≡ n
 
   pub ends_step : (s : State) (x : ℕ) → (step_on b s x).state.ends ≡ s.ends

@@ -1,6 +1,6 @@
 -- What one byte of a trace body does to the reader's state: "per byte 14, 15", then 24 in a trace header.
 -- Assumes nothing.
-use Rattle.std.specs.Prelude.{ℕ, ◌+◌, ◌-◌, ◌/◌, ◌%◌, Bool, true, false, ◌&&◌, ◌||◌, List, [], ◌∷◌, ◌++◌, ℤ, eqb, ltb, leb}
+use Rattle.std.specs.Prelude.{ℕ, ◌+◌, ◌-◌, ◌/◌, ◌%◌, Bool, ◌&&◌, ◌||◌, List, [], ◌∷◌, ◌++◌, ℤ, eqb, ltb, leb, None, Some}
 use Rattle.basis.specs.Choice.{pick, ◌or◌}
 use Rattle.codes.specs.Codes.{group_of}
 use Rattle.words.specs.Words.{value_of, off_one}
@@ -9,10 +9,10 @@ use Rattle.block.specs.Bytes.{byte}
 use Rattle.general.specs.General.{code_of, skew_fields}
 use Rattle.turns.specs.declared.Turn.{Turn}
 use Rattle.turns.specs.Turns.{trace_count, turn_at, skew_at, writes}
-use Rattle.scan.specs.Step.{none, shift, low, nibble}
+use Rattle.scan.specs.declared.Stepped.{Stepped}
+use Rattle.scan.specs.Step.{shift, low, nibble, m_and_x}
 use Rattle.trace.specs.declared.Look.{Look}
 use Rattle.trace.specs.declared.State.{State}
-use Rattle.trace.specs.declared.Stepped.{Stepped}
 
 -- ---- what is known of the present trace
 -- what the header says of trace i, of a record that has so many traces
@@ -24,8 +24,8 @@ unfoldable pub look_at : List ℕ → ℕ → Look
 look_at b i = look_by b i (trace_count b)
 
 -- a state as it is, with nothing written
-unfoldable pub still : State → Stepped
-still s = record { state = s; completed = false; value = none }
+unfoldable pub still : State → Stepped State
+still s = record { state = s; value = None }
 
 -- the body stops here, by the refusal of this number
 unfoldable pub halted : State → ℕ → State
@@ -46,7 +46,7 @@ halted s number =
     }
 
 -- a byte that stops the body writes nothing
-unfoldable pub halt : State → ℕ → Stepped
+unfoldable pub halt : State → ℕ → Stepped State
 halt s number = still (halted s number)
 
 -- a state j bytes on, with the samples and the off-rule words by then, the exponents and the last four bytes
@@ -72,7 +72,7 @@ unfoldable pub moved : State → ℕ → ℕ → ℕ → ℕ → State
 moved s n off e x = moved_by s 1 n off e (shift s.held x)
 
 -- a byte that tells nothing by itself
-unfoldable pub quiet : State → ℕ → Stepped
+unfoldable pub quiet : State → ℕ → Stepped State
 quiet s x = still (moved s s.samples s.off s.exponents x)
 
 -- ---- the trace header, its bytes counted from 1
@@ -104,20 +104,20 @@ unfoldable pub soundb : List ℕ → Turn → ℕ → ℕ → Bool
 soundb b u n x = pick (leb n 6) (namedb b u n x) (otherb b u n x)
 
 -- a byte of the trace header, or TRACE
-unfoldable pub headed : List ℕ → Turn → State → ℕ → Stepped
+unfoldable pub headed : List ℕ → Turn → State → ℕ → Stepped State
 headed b u s x = pick (soundb b u (s.at + 1) x) (quiet s x) (halt s 24)
 
 -- ---- sample words
 -- the last byte of a word: its sample, counted, and counted where it is off rule
-unfoldable pub sample : State → Value → ℕ → Stepped
-sample s v x = record { state = moved s (s.samples + 1) (s.off + off_one v) s.exponents x; completed = true; value = v }
+unfoldable pub sample : State → Value → ℕ → Stepped State
+sample s v x = record { state = moved s (s.samples + 1) (s.off + off_one v) s.exponents x; value = Some v }
 
 -- byte q of words of w bytes
-unfoldable pub plain : State → ℕ → ℕ → ℕ → Stepped
+unfoldable pub plain : State → ℕ → ℕ → ℕ → Stepped State
 plain s w x q = pick (eqb ((q + 1) % w) 0) (sample s (value_of s.code 0 (low (shift s.held x) w)) x) (quiet s x)
 
 -- byte g of a group of 8015: four c of 4 bits, then four of S Q15
-unfoldable pub grouped : State → ℕ → ℕ → Stepped
+unfoldable pub grouped : State → ℕ → ℕ → Stepped State
 grouped s x g =
     pick (eqb (g % 2) 0)
     (quiet s x)
@@ -126,11 +126,11 @@ grouped s x g =
     (sample s (value_of s.code (nibble s.exponents g) (low (shift s.held x) 2)) x))
 
 -- a byte after the header, of words in groups of w bytes
-unfoldable pub word : State → ℕ → ℕ → Stepped
+unfoldable pub word : State → ℕ → ℕ → Stepped State
 word s w x = pick (eqb w 10) (grouped s x ((s.at - 20) % 10)) (plain s w x (s.at - 20))
 
 -- one byte: a stopped state takes none; LONG, BLOCK after the last trace, TRACE
-unfoldable pub step : List ℕ → Look → State → ℕ → Stepped
+unfoldable pub step : List ℕ → Look → State → ℕ → Stepped State
 step b k s x =
     pick (eqb s.stop 0)
     (pick (eqb s.place 4294967295)
@@ -141,7 +141,7 @@ step b k s x =
     (still s)
 
 -- by the header block alone
-unfoldable pub step_on : List ℕ → State → ℕ → Stepped
+unfoldable pub step_on : List ℕ → State → ℕ → Stepped State
 step_on b s x = step b (look_at b s.ends) s x
 
 -- the state after some bytes
@@ -149,11 +149,7 @@ unfoldable pub after : List ℕ → State → List ℕ → State
 after b s [] = s
 after b s (x ∷ xs) = after b (step_on b s x).state xs
 
--- "each sample gives M then X when its last byte arrives"
-unfoldable pub m_and_x : Stepped → List ℤ
-m_and_x r = pick r.completed (r.value.m ∷ r.value.x ∷ []) []
-
--- what some bytes write
+-- what some bytes write, each sample M then X when its last byte arrives
 unfoldable pub wrote : List ℕ → State → List ℕ → List ℤ
 wrote b s [] = []
 wrote b s (x ∷ xs) = m_and_x (step_on b s x) ++ wrote b (step_on b s x).state xs

@@ -4,14 +4,11 @@ ghost use Rattle.trace.specs.Fit as Fit;
 
 use crate::State;
 
-// No stop, or one of 8, 14, 15, 24, 25.
+// No stop, or one of 8, 14, 15, 24, 25. scan has its own numbers: a function that is handed a list of them would be no plainer.
 pub(crate) fn stop_fits(n: u32) -> bool
     ensures { result ≡ Fit.stopb n }
 {
-    if (n == 0) | (n == 8) {
-        return true;
-    }
-    (n == 14) | (n == 15) | (n == 24) | (n == 25)
+    (n == 0) | (n == 8) | (n == 14) | (n == 15) | (n == 24) | (n == 25)
 }
 
 // The numbers fit each other, r bytes having come before the present trace.
@@ -30,10 +27,7 @@ fn rest_fits(s: State, r: u32) -> bool
 pub(crate) fn bounds_fit(s: State) -> bool
     ensures { result ≡ Fit.boundsb s }
 {
-    if s.place < s.at {
-        return false;
-    }
-    rest_fits(s, s.place - s.at)
+    s.at <= s.place && rest_fits(s, s.place - s.at)
 }
 
 // A state of this header block, of so many traces.

@@ -8,14 +8,15 @@ ghost use Rattle.trace.specs.Answers as Answers;
 ghost use Rattle.trace.specs.Fit as Fit;
 ghost use Rattle.trace.specs.Step as Step;
 
+use header::header_fault;
 use refusals::{Refusal, stop_refusal};
 use stream::Answer;
-use turns::{Turn, turn_at};
-use words::Value;
+use turns::{Turn, trace_count, turn_at};
 
 // The state between two calls. Which trace is read, and so its scan type, set and channel, follow from `ends` and the header block.
+// C holds it, and lends the block at every call (include/segd.h, SegdTraces): so the block is no field, and a stop is two numbers.
 #[repr(C)]
-#[derive(Clone, Copy)]
+#[derive(Clone, Copy, Default)]
 pub struct State {
     pub code: u16,
     // the bytes so far
@@ -40,14 +41,6 @@ pub struct State {
     pub stopat: u32,
 }
 
-// What one byte comes to: the next state, and the sample that it completed, if it did.
-#[derive(Clone, Copy)]
-pub struct Stepped {
-    pub state: State,
-    pub completed: bool,
-    pub value: Value,
-}
-
 // What the header says of the present trace: worked out once a call, since no portion goes past a block end.
 #[derive(Clone, Copy)]
 pub struct Look {
@@ -58,18 +51,23 @@ pub struct Look {
     pub turn: Turn,
 }
 
-// A call's answer, with the state after it.
-#[derive(Clone, Copy)]
-pub struct Gave {
-    pub state: State,
-    pub answer: Answer,
-}
-
 // A state fit for a header block of so many traces.
 pub fn fits(b: &[u8], s: State, traces: u32) -> bool
     ensures { result ≡ Fit.fit_by b.now s traces }
 {
     fit::bounds_fit(s) & fit::stop_fits(s.stop) & fit::own_fits(b, s, traces)
+}
+
+// The header's refusal, then STATE; else the traces of the record. Every call on a trace body begins with it.
+pub fn admit(b: &[u8], s: State) -> Result<u32, Refusal>
+    ensures { result ≡ Answers.admitted b.now s }
+{
+    header_fault(b)?;
+    let traces = trace_count(b);
+    if fits(b, s, traces) {
+        return Ok(traces);
+    }
+    Err(Refusal::State)
 }
 
 // What the header says of trace i, of a record of so many traces.
@@ -83,14 +81,15 @@ pub fn look_at(b: &[u8], i: u32, traces: u32) -> Look
     }
 }
 
-// The body stops here, by the refusal of this number.
+// The body stops here, by the refusal of this number, which is what the state keeps: C holds it. That of stream, halt, has another state: a trait for both would be longer than they are.
 pub fn halted(s: State, number: u32) -> State
     ensures { result ≡ Step.halted s number }
 {
-    let mut t = s;
-    t.stop = number;
-    t.stopat = t.place;
-    t
+    State {
+        stop: number,
+        stopat: s.place,
+        ..s
+    }
 }
 
 // The stop that a state keeps; FOUR tells the scan type and set of the trace that it stands in.
@@ -108,7 +107,7 @@ pub fn stop_of(b: &[u8], s: State) -> Refusal
     stop_refusal(s.stop, s.stopat)
 }
 
-// The answer of a state, after n numbers were written.
+// The answer of a state, after n numbers were written. That of stream needs no block: to share it, the refusal would have to be a closure.
 pub fn answered(b: &[u8], s: State, n: usize) -> Answer
     ensures { result ≡ Answers.answered b.now s n }
 {
@@ -118,15 +117,5 @@ pub fn answered(b: &[u8], s: State, n: usize) -> Answer
     Answer::Stopped {
         samples: n / 2,
         refusal: stop_of(b, s),
-    }
-}
-
-// Refused: nothing is changed and nothing stopped.
-pub fn unchanged(s: State, r: Refusal) -> Gave
-    ensures { result ≡ Answers.unchanged s r }
-{
-    Gave {
-        state: s,
-        answer: Answer::Refused(r),
     }
 }

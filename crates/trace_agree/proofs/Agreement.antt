@@ -1,5 +1,6 @@
 -- Demand 3 for trace bodies: from any header block of an 80xx code that is accepted, and whatever the calls, the reader does what the rules say.
 -- Assumes nothing.
+use Rattle.std.specs.Prelude.{Ok}
 use Prim.Native.Nat.{ℕ, zero, suc, ◌-◌, ◌*◌, ◌≤◌}
 use mathlib.Core.Path.{◌≡◌, refl, sym, ap, ◌∙◌}
 use mathlib.Core.Bool.{Bool, true, false}
@@ -11,7 +12,6 @@ use lib.ListN.{length, length-append}
 use borrow.Author.Tests.{le-leb}
 use Rattle.basis.specs.Choice.{pick}
 use Rattle.basis.specs.Upto.{upto, list_upto, sum_upto}
-use Rattle.refusals.specs.declared.Fault.TheVariants.{Clear}
 use Rattle.general.specs.General.{code_of}
 use Rattle.header.specs.Faults.{header_fault}
 use Rattle.header.proofs.Accepted.{sizes}
@@ -49,7 +49,7 @@ numbers_length b d p =
 samples_length : (b : List ℕ) (d : Body) → length (numbers_of b d) ≡ 2 * done_of b d
 samples_length b d = numbers_length b d _
 
-module _ (b : List ℕ) (clear : header_fault b ≡ Clear) (demuxed : 0x8000 ≤ code_of b) where
+module _ (b : List ℕ) (clear : header_fault b ≡ Ok tt) (demuxed : 0x8000 ≤ code_of b) where
   opened_state : O.opened b ≡ O.fresh (code_of b)
   unfolding O.opened pick
   opened_state = rw (clear, le-leb 0x8000 (code_of b) demuxed)

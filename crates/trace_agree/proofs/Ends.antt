@@ -1,5 +1,6 @@
 -- A block end takes the closed form to the next trace, or halts it where the rules find a fault.
 -- Assumes nothing.
+use Rattle.std.specs.Prelude.{Err, Ok}
 use Prim.Native.Nat.{ℕ, suc, ◌+◌, ◌-◌, ◌*◌, ◌/◌, ◌%◌, ◌≤◌, ◌<◌}
 use mathlib.Core.Path.{◌≡◌, refl, sym, ap, ◌∙◌}
 use mathlib.Core.Bool.{Bool, true, false, not}
@@ -13,7 +14,6 @@ use Rattle.basis.specs.Choice.{pick, ◌and◌, ◌or◌}
 use Rattle.basis.specs.Upto.{upto}
 use Rattle.refusals.specs.declared.Refusal.{Refusal}
 use Rattle.refusals.specs.declared.Refusal.TheVariants.{Block, FourAt, Count}
-use Rattle.refusals.specs.declared.Fault.TheVariants.{Clear, At}
 use Rattle.codes.specs.Codes.{group_of, per_of, lead_of, word_bytes_of}
 use Rattle.codes.proofs.Rows.{Words, alone, fours}
 use Rattle.general.specs.General.{code_of}
@@ -59,8 +59,8 @@ add_picked false x y z f = sym (add-zero x)
 
 module _ (b : List ℕ) (d : Body) where
   pub data EndHop (i s p : ℕ) (t : State) : Type 0 where
-    on : end_fault b d i s p ≡ Clear → t ≡ form b d (suc i) p → EndHop i s p t
-    off : (r : Refusal) → end_fault b d i s p ≡ At r → t ≡ halt_at b d r i p → EndHop i s p t
+    on : end_fault b d i s p ≡ Ok tt → t ≡ form b d (suc i) p → EndHop i s p t
+    off : (r : Refusal) → end_fault b d i s p ≡ Err r → t ≡ halt_at b d r i p → EndHop i s p t
 
   module _ (z : Sizes (code_of b)) (i p : ℕ) (a : AtEnd d i (start_of d i) p) where
     abbrev s : ℕ
@@ -115,7 +115,7 @@ module _ (b : List ℕ) (d : Body) where
 
     -- past BLOCK and FOUR
     module _ (q : after_last b d i ≡ false) (l : ltb n 20 ≡ false) (f : eqb (samples_in (code_of b) n % per_of (code_of b)) 0 ≡ true) where
-      then : (t : Bool) → count_wrong b d i n ≡ t → end_fault b d i s p ≡ pick t (At (Count p)) Clear
+      then : (t : Bool) → count_wrong b d i n ≡ t → end_fault b d i s p ≡ pick t (Err (Count p)) (Ok tt)
       unfolding end_fault pick ◌or◌
       then t e = rw (q, l, f, e)
 

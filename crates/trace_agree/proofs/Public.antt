@@ -1,5 +1,6 @@
 -- The reader's calls, by the machine that takes one byte or block end at a time.
 -- Assumes nothing.
+use Rattle.std.specs.Prelude.{Err, Ok, Result, ⊤}
 use Prim.Native.Nat.{ℕ, ◌*◌, ◌/◌}
 use mathlib.Core.Path.{◌≡◌, refl, sym, ap, ◌∙◌}
 use mathlib.Core.Bool.{Bool, true, false}
@@ -10,16 +11,16 @@ use lib.IntN.{ℤ}
 use lib.ListN.{length}
 use Rattle.basis.specs.Choice.{pick}
 use Rattle.refusals.specs.declared.Refusal.TheVariants.{Room}
-use Rattle.refusals.specs.declared.Fault.{Fault}
-use Rattle.refusals.specs.declared.Fault.TheVariants.{Clear, At}
 use Rattle.header.specs.Faults.{header_fault}
 use Rattle.stream.specs.declared.Answer.TheVariants as A
 use Rattle.rules.proofs.Machine.{Run}
 use Rattle.trace.specs.declared.State.{State}
-use Rattle.trace.specs.declared.Gave.{Gave}
+use Rattle.stream.specs.declared.Gave.{Gave}
+use Rattle.scan.specs.Step as Scan
 use Rattle.trace.specs.Step as S
 use Rattle.trace.specs.Fit.{fitb}
 use Rattle.trace.specs.Answers as T
+use Rattle.stream.specs.Calls as C
 use Rattle.trace_stream.specs.Calls as K
 use Rattle.trace_body.specs.Calls as L
 use Rattle.trace.proofs.Facts.{fit_of, of_fit}
@@ -32,6 +33,7 @@ use Rattle.agree.proofs.Cuts.{pieces}
 use Rattle.trace_agree.specs.Calls.{Reading, read_on}
 use Rattle.trace_agree.proofs.Laws.{step_stopped, end_stopped}
 use Rattle.trace_agree.proofs.Whole.{step_of, emit_of, end_of, stop_in, feed_after}
+use Rattle.refusals.specs.declared.Refusal.{Refusal}
 
 after_stopped : (b : List ℕ) (s : State) (bs : List ℕ) → eqb s.stop 0 ≡ false → S.after b s bs ≡ s
 unfolding S.after S.still
@@ -39,11 +41,11 @@ after_stopped b s [] h = refl
 after_stopped b s (x ∷ bs) h = rw (step_stopped b s x h) (after_stopped b s bs h)
 
 wrote_stopped : (b : List ℕ) (s : State) (bs : List ℕ) → eqb s.stop 0 ≡ false → S.wrote b s bs ≡ []
-unfolding S.wrote S.m_and_x S.still pick
+unfolding S.wrote Scan.m_and_x S.still pick
 wrote_stopped b s [] h = refl
 wrote_stopped b s (x ∷ bs) h = rw (step_stopped b s x h) (wrote_stopped b s bs h)
 
-module _ (b : List ℕ) (clear : header_fault b ≡ Clear) where
+module _ (b : List ℕ) (clear : header_fault b ≡ Ok tt) where
   module _ (s : State) (f : fitb b s ≡ true) where
     portion_fits : (bs : List ℕ) (room : ℕ) → K.portion b s bs room ≡ K.fit_portion b s bs room
     unfolding K.portion pick
@@ -65,7 +67,7 @@ module _ (b : List ℕ) (clear : header_fault b ≡ Clear) where
     unfolding K.fit_portion pick
     fit_off bs room z = rw z
 
-    fit_none : (bs : List ℕ) (room : ℕ) → eqb s.stop 0 ≡ true → ltb room (2 * length bs) ≡ true → K.fit_portion b s bs room ≡ T.unchanged s Room
+    fit_none : (bs : List ℕ) (room : ℕ) → eqb s.stop 0 ≡ true → ltb room (2 * length bs) ≡ true → K.fit_portion b s bs room ≡ C.unchanged s Room
     unfolding K.fit_portion pick
     fit_none bs room z e = rw (z, e)
 
@@ -78,8 +80,8 @@ module _ (b : List ℕ) (clear : header_fault b ≡ Clear) where
     portion_state bs room e = go (eqb s.stop 0) refl
       where
         go : (t : Bool) → eqb s.stop 0 ≡ t → (K.portion b s bs room).state ≡ S.after b s bs
-        go true z = ap (λ (g : Gave). g.state) (portion_fits bs room ∙ fit_on bs room z e)
-        go false z = ap (λ (g : Gave). g.state) (portion_fits bs room ∙ fit_off bs room z) ∙ sym (after_stopped b s bs z)
+        go true z = ap (λ (g : Gave State). g.state) (portion_fits bs room ∙ fit_on bs room z e)
+        go false z = ap (λ (g : Gave State). g.state) (portion_fits bs room ∙ fit_off bs room z) ∙ sym (after_stopped b s bs z)
 
     pub portion_wrote_lem : (bs : List ℕ) (room : ℕ) → ltb room (2 * length bs) ≡ false → K.portion_wrote b s bs room ≡ S.wrote b s bs
     unfolding K.fit_wrote pick
@@ -90,12 +92,12 @@ module _ (b : List ℕ) (clear : header_fault b ≡ Clear) where
         go false z = rw z (sym (wrote_stopped b s bs z))
 
     refused_state : (bs : List ℕ) (room : ℕ) → ltb room (2 * length bs) ≡ true → (K.portion b s bs room).state ≡ s
-    unfolding T.unchanged
+    unfolding C.unchanged
     refused_state bs room e = go (eqb s.stop 0) refl
       where
         go : (t : Bool) → eqb s.stop 0 ≡ t → (K.portion b s bs room).state ≡ s
-        go true z = ap (λ (g : Gave). g.state) (portion_fits bs room ∙ fit_none bs room z e)
-        go false z = ap (λ (g : Gave). g.state) (portion_fits bs room ∙ fit_off bs room z)
+        go true z = ap (λ (g : Gave State). g.state) (portion_fits bs room ∙ fit_none bs room z e)
+        go false z = ap (λ (g : Gave State). g.state) (portion_fits bs room ∙ fit_off bs room z)
 
     wrote_none : (bs : List ℕ) (room : ℕ) → ltb room (2 * length bs) ≡ true → K.portion_wrote b s bs room ≡ []
     unfolding K.fit_wrote pick
@@ -107,18 +109,18 @@ module _ (b : List ℕ) (clear : header_fault b ≡ Clear) where
 
     pub end_state : (L.block_end b s).state ≡ end_of b s
     unfolding L.end_gave
-    end_state = ap (λ (g : Gave). g.state) end_fits
+    end_state = ap (λ (g : Gave State). g.state) end_fits
 
     -- ---- answers, from the stops before and after
-    on_answer : (t : State) (n m : ℕ) → m ≡ n / 2 → T.answered b t n ≡ answer_from Clear (stop_in b t) m
+    on_answer : (t : State) (n m : ℕ) → m ≡ n / 2 → T.answered b t n ≡ answer_from (Ok tt) (stop_in b t) m
     unfolding T.answered pick
     on_answer t n m e = rw e (go (eqb t.stop 0))
       where
-        go : (x : Bool) → pick x (A.GoingOn (n / 2)) (A.Stopped (n / 2) (T.stop_of b t)) ≡ answer_from Clear (pick x Clear (At (T.stop_of b t))) (n / 2)
+        go : (x : Bool) → pick x (A.GoingOn (n / 2)) (A.Stopped (n / 2) (T.stop_of b t)) ≡ answer_from (Ok tt) (pick x (Ok tt) (Err (T.stop_of b t))) (n / 2)
         go true = refl
         go false = refl
 
-    off_answer : eqb s.stop 0 ≡ false → (later : Fault) (m : ℕ) → T.answered b s 0 ≡ answer_from (stop_in b s) later m
+    off_answer : eqb s.stop 0 ≡ false → (later : Result ⊤ Refusal) (m : ℕ) → T.answered b s 0 ≡ answer_from (stop_in b s) later m
     unfolding T.answered pick
     off_answer z later m = rw z
 
@@ -126,7 +128,7 @@ module _ (b : List ℕ) (clear : header_fault b ≡ Clear) where
     unfolding T.answered pick
     off_room z = rw z
 
-    going : eqb s.stop 0 ≡ true → stop_in b s ≡ Clear
+    going : eqb s.stop 0 ≡ true → stop_in b s ≡ Ok tt
     unfolding pick
     going z = rw z
 
@@ -145,12 +147,12 @@ module _ (b : List ℕ) (clear : header_fault b ≡ Clear) where
             rw q (off_answer z (stop_in b s) m)
 
     pub room_answer_lem : (bs : List ℕ) (room : ℕ) → ltb room (2 * length bs) ≡ true → (K.portion b s bs room).answer ≡ room_answer (stop_in b s)
-    unfolding T.unchanged
+    unfolding C.unchanged
     room_answer_lem bs room e = go (eqb s.stop 0) refl
       where
         go : (t : Bool) → eqb s.stop 0 ≡ t → (K.portion b s bs room).answer ≡ room_answer (stop_in b s)
         go true z =
-            let q : K.portion b s bs room ≡ T.unchanged s Room = portion_fits bs room ∙ fit_none bs room z e in
+            let q : K.portion b s bs room ≡ C.unchanged s Room = portion_fits bs room ∙ fit_none bs room z e in
             rw (q, going z)
         go false z =
             let q : K.portion b s bs room ≡ record { state = s; answer = T.answered b s 0 } = portion_fits bs room ∙ fit_off bs room z in

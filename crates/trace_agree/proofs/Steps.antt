@@ -1,5 +1,6 @@
 -- One byte takes the closed form to the next, or halts it where the rules find a fault.
 -- Assumes nothing.
+use Rattle.std.specs.Prelude.{Err, Ok}
 use Prim.Native.Nat.{ℕ, zero, suc, ◌+◌, ◌-◌, ◌*◌, ◌/◌, ◌%◌, ◌^◌, ◌≤◌, ◌<◌}
 use mathlib.Core.Path.{◌≡◌, refl, sym, ap, ap₂, ◌∙◌}
 use mathlib.Core.Bool.{Bool, true, false, not}
@@ -17,7 +18,6 @@ use Rattle.basis.specs.Fields.{field}
 use Rattle.basis.proofs.Digits.{Next, along, wrap, next}
 use Rattle.refusals.specs.declared.Refusal.{Refusal}
 use Rattle.refusals.specs.declared.Refusal.TheVariants.{Long, Block, Trace}
-use Rattle.refusals.specs.declared.Fault.TheVariants.{Clear, At}
 use Rattle.refusals.specs.Table.{said}
 use Rattle.codes.specs.Codes.{group_of, per_of, lead_of, word_bytes_of}
 use Rattle.codes.proofs.Rows.{Words, alone, fours}
@@ -32,7 +32,8 @@ use Rattle.trace_rules.specs.Headers.{header_wrong}
 use Rattle.trace_rules.specs.Samples.{samples_in, value_at, numbers_at, off_at}
 use Rattle.trace_rules.specs.Faults.{after_last, byte_fault}
 use Rattle.trace_rules.specs.Outcome.{done_before, off_before, scans_read, numbers_before}
-use Rattle.trace.specs.declared.Stepped.{Stepped}
+use Rattle.scan.specs.declared.Stepped.{Stepped}
+use Rattle.trace.specs.declared.State.{State}
 use Rattle.trace.specs.Step as S
 use Rattle.agree.proofs.Form.{tail, low_same}
 use Rattle.trace_agree.proofs.Counts.{Sizes, in_group, none_yet, Grown, same, more, grown, turn, group_start, word_start, value_now}
@@ -40,9 +41,9 @@ use Rattle.trace_agree.proofs.Places.{done_same, off_same, numbers_same, done_mo
 use Rattle.trace_agree.proofs.Form.{header_same, lead_end, exps_in, exps_next, present_at, form, halt_at}
 
 module _ (b : List ℕ) (d : Body) where
-  pub data Hop (i s p : ℕ) (t : Stepped) : Type 0 where
-    on : byte_fault b d i s p ≡ Clear → t.state ≡ form b d i (suc p) → numbers_before b d p ++ S.m_and_x t ≡ numbers_before b d (suc p) → Hop i s p t
-    off : (r : Refusal) → byte_fault b d i s p ≡ At r → t.state ≡ halt_at b d r i p → S.m_and_x t ≡ [] → Hop i s p t
+  pub data Hop (i s p : ℕ) (t : Stepped State) : Type 0 where
+    on : byte_fault b d i s p ≡ Ok tt → t.state ≡ form b d i (suc p) → numbers_before b d p ++ Scan.m_and_x t ≡ numbers_before b d (suc p) → Hop i s p t
+    off : (r : Refusal) → byte_fault b d i s p ≡ Err r → t.state ≡ halt_at b d r i p → Scan.m_and_x t ≡ [] → Hop i s p t
 
   module _ (z : Sizes (code_of b)) (small : (p : ℕ) → byte_at d p < 256) (i p : ℕ) (a : Inside d i (start_of d i) p) where
     abbrev s : ℕ
@@ -76,15 +77,15 @@ module _ (b : List ℕ) (d : Body) where
         }
 
     -- a byte that completes no sample
-    quietly : (e : ℕ) → byte_fault b d i s p ≡ Clear → e ≡ exps_in b d s (suc n) → samples_in (code_of b) (suc n) ≡ samples_in (code_of b) n
+    quietly : (e : ℕ) → byte_fault b d i s p ≡ Ok tt → e ≡ exps_in b d s (suc n) → samples_in (code_of b) (suc n) ≡ samples_in (code_of b) n
         → Hop i s p (S.still (S.moved (form b d i p) (form b d i p).samples (form b d i p).off e (byte_at d p)))
-    unfolding S.still S.m_and_x pick
+    unfolding S.still Scan.m_and_x pick
     quietly e f w m =
         on f (goes (done_before b d p) (off_before b d p) e (sym (done_same d i s p a b z m)) (sym (off_same d i s p a b z m)) w)
         (append-nil (numbers_before b d p) ∙ sym (numbers_same d i s p a b z m))
 
-    halts : (q : Refusal) → byte_fault b d i s p ≡ At q → Hop i s p (S.halt (form b d i p) (said q).number)
-    unfolding S.halt S.still S.m_and_x pick
+    halts : (q : Refusal) → byte_fault b d i s p ≡ Err q → Hop i s p (S.halt (form b d i p) (said q).number)
+    unfolding S.halt S.still Scan.m_and_x pick
     halts q f = off q f refl refl
 
     no_lead : lead_end b d n ≡ false → exps_in b d s n ≡ exps_in b d s (suc n)
@@ -107,13 +108,13 @@ module _ (b : List ℕ) (d : Body) where
               (none_yet (code_of b) z (suc n) u ∙ sym (none_yet (code_of b) z n (omega arith)))
 
       -- ---- sample words
-      fine : 20 ≤ n → byte_fault b d i s p ≡ Clear
+      fine : 20 ≤ n → byte_fault b d i s p ≡ Ok tt
       unfolding byte_fault pick ◌and◌
       fine u = rw (l, q, le-ltb n 20 u)
 
       sampled : (w : Value) → 20 ≤ n → lead_end b d n ≡ false → samples_in (code_of b) (suc n) ≡ suc (samples_in (code_of b) n)
           → w ≡ value_at (code_of b) (byte_at d) s (samples_in (code_of b) n) → Hop i s p (S.sample (form b d i p) w (byte_at d p))
-      unfolding S.sample S.m_and_x pick off_at numbers_at
+      unfolding S.sample Scan.m_and_x pick off_at numbers_at
       sampled w u e m v =
           on (fine u) (goes _ _ (exps_in b d s n) (sym (done_more d i s p a b z m)) (rw v (sym (off_more d i s p a b z m))) (no_lead e))
           (rw v (sym (numbers_more d i s p a b z m)))

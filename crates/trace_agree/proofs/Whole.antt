@@ -1,5 +1,6 @@
 -- The reader of traces follows the rules: over any pieces, its state, what it wrote and its closing answer are the rules' for the body that the pieces spell.
 -- Assumes nothing.
+use Rattle.std.specs.Prelude.{Err, Ok, Result, ⊤}
 use Prim.Native.Nat.{ℕ, zero, suc, ◌+◌, ◌-◌, ◌%◌, ◌<◌}
 use mathlib.Core.Path.{◌≡◌, refl, sym, ap, ◌∙◌, subst}
 use mathlib.Core.Bool.{Bool, true, false, not}
@@ -14,15 +15,12 @@ use Rattle.basis.specs.Choice.{pick, ◌and◌, ◌or◌}
 use Rattle.basis.specs.Upto.{upto, sum_upto, list_upto}
 use Rattle.refusals.specs.declared.Refusal.{Refusal}
 use Rattle.refusals.specs.declared.Refusal.TheVariants.{Part, Open, Missing}
-use Rattle.refusals.specs.declared.Fault.{Fault}
-use Rattle.refusals.specs.declared.Fault.TheVariants.{Clear, At}
 use Rattle.refusals.specs.Order.{when, or_else}
 use Rattle.refusals.specs.Table.{stop_place}
 use Rattle.refusals.proofs.Clears.{clear_at}
 use Rattle.codes.specs.Codes.{group_of}
 use Rattle.general.specs.General.{code_of, scan_types}
 use Rattle.turns.specs.Turns.{turn_at, turn_in}
-use Rattle.body.specs.Ends as N
 use Rattle.rules.specs.Tape.{Body, ends, start_of, size, byte_at}
 use Rattle.rules.specs.Outcome.{Report, report, answered}
 use Rattle.rules.proofs.Tapes.{size_last}
@@ -32,7 +30,8 @@ use Rattle.trace_rules.specs.Faults.{byte_fault, end_fault}
 use Rattle.trace_rules.specs.Outcome.{bytes_in, done_in, numbers_in, off_in, done_before, numbers_before, off_before, types_seen, stop_of, numbers_of, report_of, part_left, closing}
 use Rattle.trace_rules.proofs.Laws.{Halts, halts_at, byte_halts, end_halts, broke_halts}
 use Rattle.trace.specs.declared.State.{State}
-use Rattle.trace.specs.declared.Stepped.{Stepped}
+use Rattle.scan.specs.declared.Stepped.{Stepped}
+use Rattle.scan.specs.Step as Scan
 use Rattle.trace.specs.Step as S
 use Rattle.trace_body.specs.Ends as E
 use Rattle.trace.specs.Answers as T
@@ -83,14 +82,14 @@ module _ (b : List ℕ) where
   step_of s x = (S.step_on b s x).state
 
   abbrev pub emit_of : State → ℕ → List ℤ
-  emit_of s x = S.m_and_x (S.step_on b s x)
+  emit_of s x = Scan.m_and_x (S.step_on b s x)
 
   abbrev pub end_of : State → State
   end_of s = E.end_on b s
 
   -- the stop that a state keeps
-  abbrev pub stop_in : State → Fault
-  stop_in s = pick (eqb s.stop 0) Clear (At (T.stop_of b s))
+  abbrev pub stop_in : State → Result ⊤ Refusal
+  stop_in s = pick (eqb s.stop 0) (Ok tt) (Err (T.stop_of b s))
 
 module _ (b : List ℕ) (z : Sizes (code_of b)) (d : Body) (small : (p : ℕ) → byte_at d p < 256) where
   abbrev Inv : ℕ → ℕ → ℕ → Type 0
@@ -107,12 +106,12 @@ module _ (b : List ℕ) (z : Sizes (code_of b)) (d : Body) (small : (p : ℕ) �
       (G.end_hop b d z i p (record { few = a.few; begins = refl; whole = omega arith }))
 
   stays : (i p : ℕ) (r : Refusal) → Halts b i p r → Still (step_of b) (emit_of b) (end_of b) (halt_at b d r i p)
-  unfolding S.still S.m_and_x S.halted pick
+  unfolding S.still Scan.m_and_x S.halted pick
   stays i p r h =
       let s : State = halt_at b d r i p in
       record {
-        steps = λ x. ap (λ (t : Stepped). t.state) (step_stopped b s x (numbered h));
-        emits = λ x. ap S.m_and_x (step_stopped b s x (numbered h));
+        steps = λ x. ap (λ (t : Stepped State). t.state) (step_stopped b s x (numbered h));
+        emits = λ x. ap Scan.m_and_x (step_stopped b s x (numbered h));
         closes = end_stopped b s (numbered h);
       }
 
@@ -133,27 +132,27 @@ module _ (b : List ℕ) (z : Sizes (code_of b)) (d : Body) (small : (p : ℕ) �
         end_still = λ i s p r e. stays i p r (end_halts b d i s p r e);
       }
     where
-      on_state : (i s p : ℕ) → byte_fault b d i s p ≡ Clear → Hop b d i s p (S.step_on b (form b d i p) (byte_at d p)) → step_of b (form b d i p) (byte_at d p) ≡ form b d i (suc p)
+      on_state : (i s p : ℕ) → byte_fault b d i s p ≡ Ok tt → Hop b d i s p (S.step_on b (form b d i p) (byte_at d p)) → step_of b (form b d i p) (byte_at d p) ≡ form b d i (suc p)
       on_state i s p e (on f c o) = c
       on_state i s p e (off r f c o) = absurd (clear_at (sym e ∙ f))
 
-      on_out : (i s p : ℕ) → byte_fault b d i s p ≡ Clear → Hop b d i s p (S.step_on b (form b d i p) (byte_at d p)) → numbers_before b d p ++ emit_of b (form b d i p) (byte_at d p) ≡ numbers_before b d (suc p)
+      on_out : (i s p : ℕ) → byte_fault b d i s p ≡ Ok tt → Hop b d i s p (S.step_on b (form b d i p) (byte_at d p)) → numbers_before b d p ++ emit_of b (form b d i p) (byte_at d p) ≡ numbers_before b d (suc p)
       on_out i s p e (on f c o) = o
       on_out i s p e (off r f c o) = absurd (clear_at (sym e ∙ f))
 
-      off_state : (i s p : ℕ) (r : Refusal) → byte_fault b d i s p ≡ At r → Hop b d i s p (S.step_on b (form b d i p) (byte_at d p)) → step_of b (form b d i p) (byte_at d p) ≡ halt_at b d r i p
+      off_state : (i s p : ℕ) (r : Refusal) → byte_fault b d i s p ≡ Err r → Hop b d i s p (S.step_on b (form b d i p) (byte_at d p)) → step_of b (form b d i p) (byte_at d p) ≡ halt_at b d r i p
       off_state i s p r e (on f c o) = absurd (clear_at (sym f ∙ e))
       off_state i s p r e (off q f c o) = rw (same_at (sym e ∙ f)) c
 
-      off_out : (i s p : ℕ) (r : Refusal) → byte_fault b d i s p ≡ At r → Hop b d i s p (S.step_on b (form b d i p) (byte_at d p)) → emit_of b (form b d i p) (byte_at d p) ≡ []
+      off_out : (i s p : ℕ) (r : Refusal) → byte_fault b d i s p ≡ Err r → Hop b d i s p (S.step_on b (form b d i p) (byte_at d p)) → emit_of b (form b d i p) (byte_at d p) ≡ []
       off_out i s p r e (on f c o) = absurd (clear_at (sym f ∙ e))
       off_out i s p r e (off q f c o) = o
 
-      end_state : (i s p : ℕ) → end_fault b d i s p ≡ Clear → G.EndHop b d i s p (E.end_on b (form b d i p)) → E.end_on b (form b d i p) ≡ form b d (suc i) p
+      end_state : (i s p : ℕ) → end_fault b d i s p ≡ Ok tt → G.EndHop b d i s p (E.end_on b (form b d i p)) → E.end_on b (form b d i p) ≡ form b d (suc i) p
       end_state i s p e (G.on f c) = c
       end_state i s p e (G.off r f c) = absurd (clear_at (sym e ∙ f))
 
-      end_halt : (i s p : ℕ) (r : Refusal) → end_fault b d i s p ≡ At r → G.EndHop b d i s p (E.end_on b (form b d i p)) → E.end_on b (form b d i p) ≡ halt_at b d r i p
+      end_halt : (i s p : ℕ) (r : Refusal) → end_fault b d i s p ≡ Err r → G.EndHop b d i s p (E.end_on b (form b d i p)) → E.end_on b (form b d i p) ≡ halt_at b d r i p
       end_halt i s p r e (G.on f c) = absurd (clear_at (sym f ∙ e))
       end_halt i s p r e (G.off q f c) = rw (same_at (sym e ∙ f)) c
 
@@ -181,7 +180,7 @@ module _ (b : List ℕ) (z : Sizes (code_of b)) (d : Body) (small : (p : ℕ) �
 
   -- 19, 20, 21 or the report
   last_four : (x y v : Bool) (t : Report)
-      → pick x (N.refused Part) (pick y (pick v (N.refused Missing) (closed_of (report t))) (N.refused Open))
+      → pick x (Err Part) (pick y (pick v (Err Missing) (closed_of (report t))) (Err Open))
       ≡ closed_of (answered (or_else (when x Part) (or_else (when (not y) Open) (when v Missing))) t)
   unfolding pick
   last_four true y v t = refl
@@ -189,7 +188,7 @@ module _ (b : List ℕ) (z : Sizes (code_of b)) (d : Body) (small : (p : ℕ) �
   last_four false true false t = refl
   last_four false false v t = refl
 
-  finish_same : stop_of b d ≡ Clear → L.finish b (form b d (ends d) (size d)) ≡ closed_of (closing b d)
+  finish_same : stop_of b d ≡ Ok tt → L.finish b (form b d (ends d) (size d)) ≡ closed_of (closing b d)
   unfolding L.finish L.report closing pick
   finish_same g =
       rw (at_last, part_same b d (length d.tail), seen_same b d (ends d), g)
@@ -205,11 +204,11 @@ module _ (b : List ℕ) (z : Sizes (code_of b)) (d : Body) (small : (p : ℕ) �
   unfolding S.halted
   told_again i r h = again (halt_at b d r i (stop_place r)) h refl refl refl
 
-  halted_finish : (i : ℕ) (r : Refusal) → Halts b i (stop_place r) r → L.finish b (halt_at b d r i (stop_place r)) ≡ N.refused r
+  halted_finish : (i : ℕ) (r : Refusal) → Halts b i (stop_place r) r → L.finish b (halt_at b d r i (stop_place r)) ≡ Err r
   unfolding L.finish S.halted pick
   halted_finish i r h = rw (numbered h, told_again i r h)
 
-  halted_stop : (i : ℕ) (r : Refusal) → Halts b i (stop_place r) r → stop_in b (halt_at b d r i (stop_place r)) ≡ At r
+  halted_stop : (i : ℕ) (r : Refusal) → Halts b i (stop_place r) r → stop_in b (halt_at b d r i (stop_place r)) ≡ Err r
   unfolding S.halted pick
   halted_stop i r h = rw (numbered h, told_again i r h)
 

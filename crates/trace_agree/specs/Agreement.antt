@@ -1,18 +1,16 @@
 -- The third demand for trace bodies: what the streamed reader does is what the rules say of the uncut body, however it is cut,
 -- "with the header block of the opening lent unchanged at every call".
 -- Assumes nothing.
-use Rattle.std.specs.Prelude.{ℕ, ◌≤◌, ◌≡◌, true, List, []}
+use Rattle.std.specs.Prelude.{ℕ, ◌≤◌, ◌≡◌, true, List, [], Err, Ok}
 use Rattle.refusals.specs.declared.Refusal.{Refusal}
-use Rattle.refusals.specs.declared.Fault.TheVariants.{Clear, At}
 use Rattle.general.specs.General.{code_of}
 use Rattle.header.specs.Faults.{header_fault}
 use Rattle.trace_rules.specs.Outcome.{numbers_of, closing}
 use Rattle.trace.specs.declared.State.{State}
 use Rattle.trace.specs.Fit.{fitb}
-use Rattle.trace.specs.Answers as T
+use Rattle.stream.specs.Calls as C
 use Rattle.trace_stream.specs.Calls as K
 use Rattle.trace_body.specs.Calls as L
-use Rattle.body.specs.Ends as N
 use Rattle.agree.specs.Calls.{Call, put, end, Bytes, BytesIn, body_of}
 use Rattle.agree.specs.Answers.{closed_of}
 use Rattle.trace_agree.specs.Calls.{reading_of}
@@ -31,14 +29,14 @@ pub record Agrees (b : List ℕ) (cs : List Call) : Type 0 where
 
 -- from every header block of an 80xx code that is accepted, and whatever the calls
 abbrev pub Agreement : Type 0
-Agreement = (b : List ℕ) → header_fault b ≡ Clear → 0x8000 ≤ code_of b → (cs : List Call) → BytesIn cs → Agrees b cs
+Agreement = (b : List ℕ) → header_fault b ≡ Ok tt → 0x8000 ≤ code_of b → (cs : List Call) → BytesIn cs → Agrees b cs
 
 -- A header block that is turned away: its refusal answers every call, whatever the state, and nothing is changed or written.
 pub record Refuses (b : List ℕ) (r : Refusal) : Type 0 where
-  pub portions : (s : State) (bs : List ℕ) (room : ℕ) → K.portion b s bs room ≡ T.unchanged s r
+  pub portions : (s : State) (bs : List ℕ) (room : ℕ) → K.portion b s bs room ≡ C.unchanged s r
   pub writes : (s : State) (bs : List ℕ) (room : ℕ) → K.portion_wrote b s bs room ≡ []
-  pub ends : (s : State) → L.block_end b s ≡ T.unchanged s r
-  pub closes : (s : State) → L.close b s ≡ N.refused r
+  pub ends : (s : State) → L.block_end b s ≡ C.unchanged s r
+  pub closes : (s : State) → L.close b s ≡ Err r
 
 abbrev pub TurnedAway : Type 0
-TurnedAway = (b : List ℕ) (r : Refusal) → header_fault b ≡ At r → Refuses b r
+TurnedAway = (b : List ℕ) (r : Refusal) → header_fault b ≡ Err r → Refuses b r

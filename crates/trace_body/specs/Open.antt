@@ -1,13 +1,12 @@
 -- Opening a trace body: "the header block of the opening".
 -- Assumes nothing.
-use Rattle.std.specs.Prelude.{ℕ, List}
+use Rattle.std.specs.Prelude.{ℕ, List, Err, Ok, Result, ⊤}
 use Rattle.basis.specs.Choice.{pick}
-use Rattle.refusals.specs.declared.Fault.{Fault}
-use Rattle.refusals.specs.declared.Fault.TheVariants.{Clear, At}
 use Rattle.codes.specs.Codes.{demultiplexed}
 use Rattle.general.specs.General.{code_of}
 use Rattle.header.specs.Faults.{header_fault}
 use Rattle.trace.specs.declared.State.{State}
+use Rattle.refusals.specs.declared.Refusal.{Refusal}
 
 -- the state before the first byte of a body of this code
 unfoldable pub fresh : ℕ → State
@@ -28,9 +27,9 @@ fresh code =
     }
 
 -- all zero, and so unfit, where the header is refused or its code is not of 80xx
-abbrev pub opened_on : Fault → ℕ → State
-opened_on (At r) code = fresh 0
-opened_on Clear code = fresh (pick (demultiplexed code) code 0)
+abbrev pub opened_on : Result ⊤ Refusal → ℕ → State
+opened_on (Err r) code = fresh 0
+opened_on (Ok tt) code = fresh (pick (demultiplexed code) code 0)
 
 -- opening on a block
 unfoldable pub opened : List ℕ → State

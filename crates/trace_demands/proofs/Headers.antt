@@ -1,5 +1,6 @@
 -- A trace header has no wrong byte exactly where each field is what it must be.
 -- Assumes nothing.
+use Rattle.std.specs.Prelude.{None, Ok, Option, Some}
 use Prim.Native.Nat.{ℕ, ◌+◌, ◌-◌, ◌/◌, ◌%◌, ◌≤◌, ◌<◌}
 use mathlib.Core.Path.{◌≡◌, refl, sym, ap, subst, ◌∙◌}
 use mathlib.Core.Bool.{Bool, true, false, not}
@@ -11,11 +12,8 @@ use Rattle.basis.specs.Choice.{◌and◌, ◌or◌}
 use Rattle.basis.specs.Digits.{byte_in}
 use Rattle.basis.specs.Upto.{upto}
 use Rattle.refusals.specs.declared.Refusal.TheVariants.{Long, Block, Trace}
-use Rattle.refusals.specs.declared.Fault.TheVariants.{Clear}
 use Rattle.refusals.specs.Order.{when}
 use Rattle.refusals.proofs.Clears.{both_clear, when_clear}
-use Rattle.block.specs.declared.Pair.{Pair}
-use Rattle.block.specs.declared.Pair.TheVariants.{Digits, NoPair}
 use Rattle.block.specs.Bytes.{byte, packed_of}
 use Rattle.general.specs.General.{skew_fields, within}
 use Rattle.general.proofs.Kept.{within_is}
@@ -49,15 +47,15 @@ pub not_not : (t : Bool) → not t ≡ false → t ≡ true
 not_not t e = not-false t e
 
 -- ---- digit pairs
-pair_is_lem : (p : Pair) (n : ℕ) → pair_is p n ≡ true → p ≡ Digits n
-pair_is_lem (Digits d) n e = ap Digits (eqb-true d n e)
-pair_is_lem NoPair n e = let z : ◌≡◌ {A = Bool} false true = e in let y : ◌≡◌ {A = ℕ} 0 1 = cc in absurd (omega arith)
+pair_is_lem : (p : Option ℕ) (n : ℕ) → pair_is p n ≡ true → p ≡ Some n
+pair_is_lem (Some d) n e = ap Some (eqb-true d n e)
+pair_is_lem None n e = let z : ◌≡◌ {A = Bool} false true = e in let y : ◌≡◌ {A = ℕ} 0 1 = cc in absurd (omega arith)
 
-is_pair : (x n : ℕ) → packed_of x ≡ Digits n → writes x n ≡ true
+is_pair : (x n : ℕ) → packed_of x ≡ Some n → writes x n ≡ true
 unfolding writes
 is_pair x n e = rw e (eq-eqb n n refl)
 
-writes_is : (x n : ℕ) → not (writes x n) ≡ false → packed_of x ≡ Digits n
+writes_is : (x n : ℕ) → not (writes x n) ≡ false → packed_of x ≡ Some n
 unfolding writes
 writes_is x n e = pair_is_lem (packed_of x) n (not_not (pair_is (packed_of x) n) e)
 
@@ -79,19 +77,19 @@ module _ (b : List ℕ) (i : ℕ) (x : ℕ → ℕ) where
   unfolding ◌and◌
   file_is n l e = let h : not (eqb (x n) (byte b n)) ≡ false = rw (le-leb n 2 l) at e in eqb-true (x n) (byte b n) (not_not _ h)
 
-  three : turn_wrong u 3 (x 3) ≡ false → packed_of (x 3) ≡ Digits (u.scan_type + 1)
+  three : turn_wrong u 3 (x 3) ≡ false → packed_of (x 3) ≡ Some (u.scan_type + 1)
   unfolding ◌and◌
   three e = writes_is (x 3) _ (or_false (not (writes (x 3) (u.scan_type + 1))) _ e).0
 
-  four : turn_wrong u 4 (x 4) ≡ false → packed_of (x 4) ≡ Digits (u.set + 1)
+  four : turn_wrong u 4 (x 4) ≡ false → packed_of (x 4) ≡ Some (u.set + 1)
   unfolding ◌and◌ ◌or◌
   four e = writes_is (x 4) _ (or_false (not (writes (x 4) (u.set + 1))) false e).0
 
-  five : turn_wrong u 5 (x 5) ≡ false → packed_of (x 5) ≡ Digits ((u.channel + 1) / 100)
+  five : turn_wrong u 5 (x 5) ≡ false → packed_of (x 5) ≡ Some ((u.channel + 1) / 100)
   unfolding ◌and◌ ◌or◌
   five e = writes_is (x 5) _ (or_false (not (writes (x 5) ((u.channel + 1) / 100))) false e).0
 
-  six : turn_wrong u 6 (x 6) ≡ false → packed_of (x 6) ≡ Digits ((u.channel + 1) % 100)
+  six : turn_wrong u 6 (x 6) ≡ false → packed_of (x 6) ≡ Some ((u.channel + 1) % 100)
   unfolding ◌and◌ ◌or◌
   six e = writes_is (x 6) _ e
 
@@ -168,7 +166,7 @@ module _ (b : List ℕ) (i : ℕ) (x : ℕ → ℕ) where
 
 -- ---- in a body that does not stop
 module _ (b : List ℕ) (d : Body) where
-  byte_sound : (i s p : ℕ) → byte_fault b d i s p ≡ Clear → p - s < 20 → header_wrong b i (p - s + 1) (byte_at d p) ≡ false
+  byte_sound : (i s p : ℕ) → byte_fault b d i s p ≡ Ok tt → p - s < 20 → header_wrong b i (p - s + 1) (byte_at d p) ≡ false
   unfolding byte_fault ◌and◌
   byte_sound i s p e l =
       let f = both_clear (when (eqb p 4294967295) (Long p)) _ e in
@@ -176,18 +174,18 @@ module _ (b : List ℕ) (d : Body) where
       let h = when_clear (ltb (p - s) 20 and header_wrong b i (p - s + 1) (byte_at d p)) (Trace p) g.1 in
       rw (lt-ltb (p - s) 20 l) at h
 
-  end_long : (i s p : ℕ) → end_fault b d i s p ≡ Clear → 20 ≤ p - s
+  end_long : (i s p : ℕ) → end_fault b d i s p ≡ Ok tt → 20 ≤ p - s
   unfolding end_fault
   end_long i s p e =
       let f = both_clear (when (after_last b d i or header_cut b d (p - s)) (Block p)) _ e in
       let h = when_clear (after_last b d i or header_cut b d (p - s)) (Block p) f.0 in
       ltb-false (p - s) 20 (or_false (after_last b d i) (header_cut b d (p - s)) h).1
 
-  read : stop_of b d ≡ Clear → (k : ℕ) → k < ends d → TraceHeader b (turn_at b k) (λ n. byte_in (block_of d k) (n - 1))
+  read : stop_of b d ≡ Ok tt → (k : ℕ) → k < ends d → TraceHeader b (turn_at b k) (λ n. byte_in (block_of d k) (n - 1))
   unfolding upto
   read e k l = go (subst (Stops (byte_fault b d) (end_fault b d) d) e (stop_first b d))
     where
-      go : Stops (byte_fault b d) (end_fault b d) d Clear → TraceHeader b (turn_at b k) (λ n. byte_in (block_of d k) (n - 1))
+      go : Stops (byte_fault b d) (end_fault b d) d (Ok tt) → TraceHeader b (turn_at b k) (λ n. byte_in (block_of d k) (n - 1))
       go (nowhere blocks bytes) =
           let c = blocks k l in
           let w : 20 ≤ length_of d k = omega (arith, end_long k (start_of d k) (start_of d k + length_of d k) c.1) in

@@ -1,5 +1,6 @@
 -- What holds of any body: a state that no call changes stays as it is, however many calls there are; and what an answer or a kept stop says of its test.
 -- Assumes nothing.
+use Rattle.std.specs.Prelude.{Err, Ok, Result, ⊤, Option, Some, None}
 use Prim.Native.Nat.{ℕ, ◌%◌}
 use mathlib.Core.Path.{◌≡◌, refl}
 use mathlib.Core.Bool.{Bool, true, false}
@@ -9,15 +10,16 @@ use lib.IntN.{ℤ}
 use lib.ListN.{length}
 use Rattle.basis.specs.Choice.{pick}
 use Rattle.refusals.specs.declared.Refusal.{Refusal}
-use Rattle.refusals.specs.declared.Fault.TheVariants.{Clear, At}
 use Rattle.stream.specs.declared.Answer.{Answer}
 use Rattle.stream.specs.declared.Answer.TheVariants.{GoingOn, Stopped, Refused}
 use Rattle.stream.specs.Calls.{samples_told}
 use Rattle.agree.specs.Calls.{Call, put, end}
-use Rattle.trace_demands.specs.Bodies.{Calls, read_on, unreported, Idle}
+use Rattle.trace_demands.specs.Bodies.{Calls, read_on, Idle}
+use Rattle.words.specs.declared.Value.{Value}
+use Rattle.scan.specs.Step.{m_then_x}
 
 module _ {S : Type 0} (k : Calls S) (s : S) (a : Answer) (r : Refusal) (p : (bs : List ℕ) (room : ℕ) → k.portion s bs room ≡ s) (q : (bs : List ℕ) (room : ℕ) → k.answered s bs room ≡ a)
-    (w : (bs : List ℕ) (room : ℕ) → k.written s bs room ≡ []) (e : k.ended s ≡ s) (f : k.end_answered s ≡ a) (c : k.closed s ≡ unreported r) where
+    (w : (bs : List ℕ) (room : ℕ) → k.written s bs room ≡ []) (e : k.ended s ≡ s) (f : k.end_answered s ≡ a) (c : k.closed s ≡ Err r) where
   forever : (n : List ℤ) (cs : List Call) → read_on k (record { state = s; numbers = n }) cs ≡ record { state = s; numbers = n }
   forever n [] = refl
   forever n (put bs room ∷ cs) = rw (p bs room, w bs room, append-nil n) (forever n cs)
@@ -27,12 +29,12 @@ module _ {S : Type 0} (k : Calls S) (s : S) (a : Answer) (r : Refusal) (p : (bs 
   idle = record { portions = p; answers = q; writes = w; ends = e; end_answers = f; closes = c; forever = forever }
 
 -- ---- a stop that is kept, and an answer that tells it
-pub kept_at : (x r : Refusal) (t : Bool) → pick t Clear (At x) ≡ At r → (t ≡ false) × (x ≡ r)
+pub kept_at : (x r : Refusal) (t : Bool) → ◌≡◌ {A = Result ⊤ Refusal} (pick t (Ok tt) (Err x)) (Err r) → (t ≡ false) × (x ≡ r)
 unfolding pick
 kept_at x r true e = let q : ◌≡◌ {A = ℕ} 0 1 = cc in absurd (omega arith)
 kept_at x r false e = (refl, cc)
 
-pub kept_clear : (x : Refusal) (t : Bool) → pick t Clear (At x) ≡ Clear → t ≡ true
+pub kept_clear : (x : Refusal) (t : Bool) → ◌≡◌ {A = Result ⊤ Refusal} (pick t (Ok tt) (Err x)) (Ok tt) → t ≡ true
 unfolding pick
 kept_clear x true e = refl
 kept_clear x false e = let q : ◌≡◌ {A = ℕ} 0 1 = cc in absurd (omega arith)
@@ -51,7 +53,6 @@ unfolding pick
 told_samples true n x = refl
 told_samples false n x = refl
 
-pub two_more : (t : Bool) (m x : ℤ) (w : List ℤ) → length w % 2 ≡ 0 → length (pick t (m ∷ x ∷ []) [] ++ w) % 2 ≡ 0
-unfolding pick
-two_more true m x w e = omega (arith, e)
-two_more false m x w e = e
+pub two_more : (v : Option Value) (w : List ℤ) → length w % 2 ≡ 0 → length (m_then_x v ++ w) % 2 ≡ 0
+two_more (Some v) w e = omega (arith, e)
+two_more None w e = e

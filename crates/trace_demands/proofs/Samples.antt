@@ -1,5 +1,6 @@
 -- The samples of a trace body, one by one: lists of lists of two, one after another.
 -- Assumes nothing.
+use Rattle.std.specs.Prelude.{Err, Ok, Result, ⊤}
 use Prim.Native.Nat.{ℕ, zero, suc, ◌+◌, ◌*◌, ◌≤◌, ◌<◌}
 use mathlib.Core.Path.{◌≡◌, refl, ap, ◌∙◌}
 use mathlib.Core.Logic.{⊎_elim}
@@ -10,8 +11,6 @@ use lib.IntN.{ℤ}
 use lib.ListN.{length, take, drop, length-append, length-drop}
 use lib.Seq.{take_all, take-append-le, drop-append-le, drop-append-add}
 use Rattle.basis.specs.Upto.{upto, sum_upto, list_upto}
-use Rattle.refusals.specs.declared.Fault.{Fault}
-use Rattle.refusals.specs.declared.Fault.TheVariants.{Clear, At}
 use Rattle.refusals.proofs.Clears.{both_clear}
 use Rattle.general.specs.General.{code_of}
 use Rattle.rules.specs.Tape.{Body, ends, start_of, byte_at}
@@ -20,6 +19,7 @@ use Rattle.rules.proofs.Tapes.{byte_in_lem}
 use Rattle.trace_rules.specs.Samples.{value_at, numbers_at}
 use Rattle.trace_rules.specs.Outcome.{numbers_in, done_of, stop_of, report_of, closing_fault, closing}
 use Rattle.trace_demands.specs.TraceDemand3.{bytes_read, done_there, InOrder}
+use Rattle.refusals.specs.declared.Refusal.{Refusal}
 
 -- ---- lists one after another, list k of 2 g k
 module _ {A : Type 0} (f : ℕ → List A) (g : ℕ → ℕ) (twice : (k : ℕ) → length (f k) ≡ 2 * g k) where
@@ -90,11 +90,11 @@ module _ (b : List ℕ) (d : Body) where
         own = byte_in_lem d;
       }
 
-report_given : (f : Fault) (a t : Report) → answered f a ≡ report t → (f ≡ Clear) × (t ≡ a)
-report_given Clear a t e = (refl, cc)
-report_given (At r) a t e = let z : ◌≡◌ {A = ℕ} 0 1 = cc in absurd (omega arith)
+report_given : (f : Result ⊤ Refusal) (a t : Report) → answered f a ≡ report t → (f ≡ Ok tt) × (t ≡ a)
+report_given (Ok tt) a t e = (refl, cc)
+report_given (Err r) a t e = let z : ◌≡◌ {A = ℕ} 0 1 = cc in absurd (omega arith)
 
-pub reported : (b : List ℕ) (d : Body) (t : Report) → closing b d ≡ report t → (closing_fault b d ≡ Clear) × (t ≡ report_of b d)
+pub reported : (b : List ℕ) (d : Body) (t : Report) → closing b d ≡ report t → (closing_fault b d ≡ Ok tt) × (t ≡ report_of b d)
 unfolding closing
 reported b d t e = report_given (closing_fault b d) (report_of b d) t e
 

@@ -22,7 +22,7 @@ use Rattle.stream.specs.declared.Answer.TheVariants as answer
 use Rattle.stream.specs.declared.Answer.TheVariants.{Stopped, Refused}
 use Rattle.stream.specs.Calls.{portion, fit_portion, fed, portion_wrote, fit_wrote, answered, unchanged, samples_told, lacks_room}
 use Rattle.stream.proofs.Cuts.{portion_fit, portion_state, portion_wrote_lem}
-use Rattle.body.specs.Ends.{block_end, ended, one_end, due, close, finish, refused, nothing as noReport}
+use Rattle.body.specs.Ends.{block_end, ended, one_end, due, close, finish}
 use Rattle.body.proofs.BlockEnds.{end_fit}
 use Rattle.trace_demands.specs.Bodies.{SameStop, Unmoved, NoTrace, Stopping, TwoAreOne, Portions}
 use Rattle.trace_demands.specs.Instances.{scans, scan_stop}
@@ -36,11 +36,11 @@ stop_in s = stop_refusal s.stop s.stopat
 
 module _ (s : State) where
   unmoved : fitb s ≡ false → Unmoved scans s
-  unfolding portion portion_wrote block_end close unchanged refused noReport pick
+  unfolding portion portion_wrote block_end close unchanged pick
   unmoved f = idle scans s (Refused refusal.State) refusal.State (λ bs room. rw f) (λ bs room. rw f) (λ bs room. rw f) (rw f) (rw f) (rw f)
 
   stays : fitb s ≡ true → eqb s.stop 0 ≡ false → SameStop scans s (stop_in s)
-  unfolding portion fit_portion portion_wrote fit_wrote block_end ended close finish answered refused noReport pick
+  unfolding portion fit_portion portion_wrote fit_wrote block_end ended close finish answered pick
   stays f z =
       idle scans s (Stopped 0 (stop_in s)) (stop_in s) (λ bs room. rw (f, z)) (λ bs room. rw (f, z)) (λ bs room. rw (f, z)) (rw (f, z)) (rw (f, z)) (rw (f, z))
 
@@ -53,7 +53,7 @@ module _ (s : State) where
   }
 
 -- what an answer that stops says is what the state then keeps
-abbrev Told : ℕ → Refusal → Gave → Type 0
+abbrev Told : ℕ → Refusal → Gave State → Type 0
 Told n r g = g.answer ≡ Stopped n r → (eqb g.state.stop 0 ≡ false) × (r ≡ stop_in g.state)
 
 told_on : (s : State) (k n : ℕ) (r : Refusal) → Told n r (record { state = s; answer = answered s k })
@@ -82,7 +82,7 @@ end_told s n r =
     (told_off s refusal.State n r)
 
 -- an answer that stops is that of a fit state
-fit_given : (s : State) (g : Gave) (n : ℕ) (r : Refusal) (t : Bool) → fitb s ≡ t → (pick t g (unchanged s refusal.State)).answer ≡ Stopped n r → fitb s ≡ true
+fit_given : (s : State) (g : Gave State) (n : ℕ) (r : Refusal) (t : Bool) → fitb s ≡ t → (pick t g (unchanged s refusal.State)).answer ≡ Stopped n r → fitb s ≡ true
 unfolding unchanged pick
 fit_given s g n r true f e = f
 fit_given s g n r false f e = no_stop refusal.State r n e
@@ -113,7 +113,7 @@ stopping =
 even : (s : State) (bs : List ℕ) → length (wrote s bs) % 2 ≡ 0
 unfolding wrote m_and_x
 even s [] = refl
-even s (b ∷ bs) = two_more (step s b).completed _ _ (wrote (step s b).state bs) (even (step s b).state bs)
+even s (b ∷ bs) = two_more (step s b).value (wrote (step s b).state bs) (even (step s b).state bs)
 
 said : (s : State) (k : ℕ) → samples_told (answered s k) ≡ k / 2
 unfolding answered

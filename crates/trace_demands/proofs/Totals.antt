@@ -1,5 +1,6 @@
 -- A report's samples are its scans x S/S: every trace has its scan type's scans, and 2^(S/C) samples in each.
 -- Assumes nothing.
+use Rattle.std.specs.Prelude.{Ok, Result, ⊤}
 use Prim.Native.Nat.{ℕ, zero, suc, ◌+◌, ◌-◌, ◌*◌, ◌≤◌, ◌<◌}
 use mathlib.Core.Path.{◌≡◌, refl, sym, ap, subst, ◌∙◌}
 use mathlib.Core.Bool.{Bool, true, false, not}
@@ -14,8 +15,6 @@ use Rattle.basis.specs.Choice.{pick, ◌or◌}
 use Rattle.basis.specs.Upto.{upto, sum_upto}
 use Rattle.basis.proofs.Uptos.{sum_grows}
 use Rattle.refusals.specs.declared.Refusal.TheVariants.{Part, Open, Missing, Block, FourAt, Count}
-use Rattle.refusals.specs.declared.Fault.{Fault}
-use Rattle.refusals.specs.declared.Fault.TheVariants.{Clear}
 use Rattle.refusals.specs.Order.{when, or_else}
 use Rattle.refusals.proofs.Clears.{both_clear, when_clear}
 use Rattle.general.specs.General.{code_of, scan_types, channel_sets}
@@ -41,6 +40,7 @@ use Rattle.trace_demands.proofs.Headers.{or_false, not_not}
 use Rattle.trace_demands.proofs.Orders.{type, set, turn_is}
 use Rattle.trace_demands.proofs.Samples.{reported}
 use Rattle.trace_demands.proofs.Sums.{regroup, sum_same, sum_times, sum_none, first_alone}
+use Rattle.refusals.specs.declared.Refusal.{Refusal}
 
 module _ (b : List ℕ) (d : Body) where
   -- ---- a trace that has ended without a fault
@@ -50,7 +50,7 @@ module _ (b : List ℕ) (d : Body) where
     pub some : 0 < type_scans b d k
     pub samples : samples_in (code_of b) (length_of d k) ≡ type_scans b d k * per_scan b d k
 
-  ended_by : (k s p : ℕ) → p - s ≡ length_of d k → end_fault b d k s p ≡ Clear → Ended k
+  ended_by : (k s p : ℕ) → p - s ≡ length_of d k → end_fault b d k s p ≡ Ok tt → Ended k
   unfolding end_fault
   ended_by k s p q e =
       let f = both_clear (when (after_last b d k or header_cut b d (p - s)) (Block p)) _ e in
@@ -66,11 +66,11 @@ module _ (b : List ℕ) (d : Body) where
         samples = ap (samples_in (code_of b)) (sym q) ∙ n;
       }
 
-  ended : stop_of b d ≡ Clear → (k : ℕ) → k < ends d → Ended k
+  ended : stop_of b d ≡ Ok tt → (k : ℕ) → k < ends d → Ended k
   unfolding upto
   ended e k l = go (subst (Stops (byte_fault b d) (end_fault b d) d) e (stop_first b d))
     where
-      go : Stops (byte_fault b d) (end_fault b d) d Clear → Ended k
+      go : Stops (byte_fault b d) (end_fault b d) d (Ok tt) → Ended k
       go (nowhere blocks bytes) = ended_by k (start_of d k) (start_of d k + length_of d k) (omega arith) (blocks k l).1
 
   -- ---- the scans of scan type t, those of its first trace; and what a trace has
@@ -121,7 +121,7 @@ module _ (b : List ℕ) (d : Body) where
       ∙ sum_times (set_samples b t) (scans_in t) (channel_sets b)
 
   -- ---- of all
-  module _ (clear : header_fault b ≡ Clear) where
+  module _ (clear : header_fault b ≡ Ok tt) where
     all_give : sum_upto has (trace_count b) ≡ sum_upto scans_in (scan_types b) * samples_of b 0
     unfolding trace_count
     all_give =
@@ -157,7 +157,7 @@ module _ (b : List ℕ) (d : Body) where
   seen_is zero l = absurd (omega arith)
   seen_is (suc n) l = refl
 
-  module _ (clear : header_fault b ≡ Clear) (going : stop_of b d ≡ Clear) (none : length d.tail ≡ 0) (seen : scan_types b ≤ types_seen b d (ends d)) where
+  module _ (clear : header_fault b ≡ Ok tt) (going : stop_of b d ≡ Ok tt) (none : length d.tail ≡ 0) (seen : scan_types b ≤ types_seen b d (ends d)) where
     some : 0 < ends d
     some = go (ends d) refl
       where
@@ -222,12 +222,12 @@ module _ (b : List ℕ) (d : Body) where
   pub ended_so : (n t : ℕ) → 0 < n → t ≤ scan_types b → first_of b t ≤ n → t ≤ types_seen b d n
   ended_so n t z l h = rw (seen_is n z) (seen_high n t l h)
 
-pub whole : (b : List ℕ) (d : Body) (t : Report) → header_fault b ≡ Clear → closing b d ≡ report t → Whole b d t
+pub whole : (b : List ℕ) (d : Body) (t : Report) → header_fault b ≡ Ok tt → closing b d ≡ report t → Whole b d t
 unfolding subscans_at
 whole b d t clear e =
-    let part : Fault = when (part_left b d (length d.tail)) Part in
-    let later : Fault = when (not (eqb (length d.tail) 0)) Open in
-    let missing : Fault = when (ltb (types_seen b d (ends d)) (scan_types b)) Missing in
+    let part : (Result ⊤ Refusal) = when (part_left b d (length d.tail)) Part in
+    let later : (Result ⊤ Refusal) = when (not (eqb (length d.tail) 0)) Open in
+    let missing : (Result ⊤ Refusal) = when (ltb (types_seen b d (ends d)) (scan_types b)) Missing in
     let g = reported b d t e in
     let p = both_clear (stop_of b d) (or_else part (or_else later missing)) g.0 in
     let q = both_clear part (or_else later missing) p.1 in

@@ -1,5 +1,6 @@
 -- A trace body that has stopped stays so, and a call that answers with a stop leaves it stopped.
 -- Assumes nothing.
+use Rattle.std.specs.Prelude.{Err, Ok, Result, ⊤}
 use Prim.Native.Nat.{ℕ, ◌*◌, ◌/◌, ◌<◌}
 use mathlib.Core.Path.{◌≡◌, refl, sym, ap, subst, ◌∙◌}
 use mathlib.Core.Bool.{Bool, true, false}
@@ -11,16 +12,14 @@ use Rattle.basis.specs.Choice.{pick}
 use Rattle.basis.proofs.Choices.{pick_both}
 use Rattle.refusals.specs.declared.Refusal.{Refusal}
 use Rattle.refusals.specs.declared.Refusal.TheVariants as refusal
-use Rattle.refusals.specs.declared.Fault.{Fault}
-use Rattle.refusals.specs.declared.Fault.TheVariants.{Clear, At}
 use Rattle.header.specs.Faults.{header_fault}
 use Rattle.stream.specs.declared.Answer.TheVariants.{Stopped, Refused}
-use Rattle.body.specs.Ends.{refused, nothing as noReport}
 use Rattle.trace.specs.declared.State.{State}
-use Rattle.trace.specs.declared.Gave.{Gave}
+use Rattle.stream.specs.declared.Gave.{Gave}
 use Rattle.trace.specs.Step as S
 use Rattle.trace.specs.Fit.{fitb}
-use Rattle.trace.specs.Answers.{stop_of, answered, unchanged, checked}
+use Rattle.trace.specs.Answers.{stop_of, answered, checked}
+use Rattle.stream.specs.Calls.{unchanged}
 use Rattle.trace_stream.specs.Calls.{portion, fit_portion, fed, portion_wrote, fit_wrote}
 use Rattle.trace_body.specs.Ends.{end_on}
 use Rattle.trace_body.specs.Calls.{block_end, end_gave, close, finish}
@@ -32,20 +31,20 @@ use Rattle.trace_demands.specs.Instances.{traces, trace_stop}
 use Rattle.trace_demands.proofs.Idles.{idle, kept_at, kept_clear, by_answer, no_stop}
 
 -- ---- a header that is refused
-pub refuses : (b : List ℕ) (r : Refusal) → header_fault b ≡ At r → (s : State) → bodies.Refused (traces b) s r
-unfolding portion portion_wrote block_end close unchanged refused noReport
+pub refuses : (b : List ℕ) (r : Refusal) → header_fault b ≡ Err r → (s : State) → bodies.Refused (traces b) s r
+unfolding portion portion_wrote block_end close unchanged
 refuses b r e s = idle (traces b) s (Refused r) r (λ bs room. rw e) (λ bs room. rw e) (λ bs room. rw e) (rw e) (rw e) (rw e)
 
-module _ (b : List ℕ) (clear : header_fault b ≡ Clear) (s : State) where
+module _ (b : List ℕ) (clear : header_fault b ≡ Ok tt) (s : State) where
   -- ---- a state that is not fit for the block
   pub unmoved : fitb b s ≡ false → Unmoved (traces b) s
-  unfolding portion portion_wrote block_end close unchanged refused noReport pick
+  unfolding portion portion_wrote block_end close unchanged pick
   unmoved f =
       idle (traces b) s (Refused refusal.State) refusal.State (λ bs room. rw (clear, f)) (λ bs room. rw (clear, f)) (λ bs room. rw (clear, f)) (rw (clear, f)) (rw (clear, f)) (rw (clear, f))
 
   -- ---- one that has stopped
   stays : fitb b s ≡ true → eqb s.stop 0 ≡ false → SameStop (traces b) s (stop_of b s)
-  unfolding portion fit_portion portion_wrote fit_wrote block_end end_gave close finish answered refused noReport pick
+  unfolding portion fit_portion portion_wrote fit_wrote block_end end_gave close finish answered pick
   stays f z =
       idle (traces b) s (Stopped 0 (stop_of b s)) (stop_of b s) (λ bs room. rw (clear, f, z)) (λ bs room. rw (clear, f, z)) (λ bs room. rw (clear, f, z))
       (rw (clear, f, end_stopped b s z)) (rw (clear, f, end_stopped b s z, z)) (rw (clear, f, z))
@@ -61,7 +60,7 @@ module _ (b : List ℕ) (clear : header_fault b ≡ Clear) (s : State) where
 
 -- ---- what an answer that stops says is what the state then keeps
 module _ (b : List ℕ) where
-  abbrev Told : ℕ → Refusal → Gave → Type 0
+  abbrev Told : ℕ → Refusal → Gave State → Type 0
   Told n r g = g.answer ≡ Stopped n r → (eqb g.state.stop 0 ≡ false) × (r ≡ stop_of b g.state)
 
   told_on : (s : State) (k n : ℕ) (r : Refusal) → Told n r (record { state = s; answer = answered b s k })
@@ -82,17 +81,17 @@ module _ (b : List ℕ) where
   told_end s n r = told_on (end_on b s) 0 n r
 
   -- such an answer is that of an accepted header and a state fit for it
-  pub record Given (s : State) (g h : Gave) : Type 0 where
-    pub clear : header_fault b ≡ Clear
+  pub record Given (s : State) (g h : Gave State) : Type 0 where
+    pub clear : header_fault b ≡ Ok tt
     pub fit : fitb b s ≡ true
     pub gave : g ≡ h
 
-  given : (s : State) (h : Gave) (n : ℕ) (r : Refusal) (f : Fault) (t : Bool) → header_fault b ≡ f → fitb b s ≡ t
+  given : (s : State) (h : Gave State) (n : ℕ) (r : Refusal) (f : Result ⊤ Refusal) (t : Bool) → header_fault b ≡ f → fitb b s ≡ t
       → (checked f t s h).answer ≡ Stopped n r → Given s (checked f t s h) h
   unfolding unchanged pick
-  given s h n r Clear true c f e = record { clear = c; fit = f; gave = refl }
-  given s h n r Clear false c f e = no_stop refusal.State r n e
-  given s h n r (At x) t c f e = no_stop x r n e
+  given s h n r (Ok tt) true c f e = record { clear = c; fit = f; gave = refl }
+  given s h n r (Ok tt) false c f e = no_stop refusal.State r n e
+  given s h n r (Err x) t c f e = no_stop x r n e
 
   portion_given : (s : State) (bs : List ℕ) (room n : ℕ) (r : Refusal) → (portion b s bs room).answer ≡ Stopped n r → Given s (portion b s bs room) (fit_portion b s bs room)
   unfolding portion
@@ -101,8 +100,8 @@ module _ (b : List ℕ) where
   pub stays_after_portion : (s : State) (bs : List ℕ) (room n : ℕ) (r : Refusal) → (portion b s bs room).answer ≡ Stopped n r → SameStop (traces b) (portion b s bs room).state r
   stays_after_portion s bs room n r e =
       let g = portion_given s bs room n r e in
-      let w = told_portion s bs room n r (ap (λ (x : Gave). x.answer) (sym g.gave) ∙ e) in
-      let q : (portion b s bs room).state ≡ (fit_portion b s bs room).state = ap (λ (x : Gave). x.state) g.gave in
+      let w = told_portion s bs room n r (ap (λ (x : Gave State). x.answer) (sym g.gave) ∙ e) in
+      let q : (portion b s bs room).state ≡ (fit_portion b s bs room).state = ap (λ (x : Gave State). x.state) g.gave in
       rw (w.1, ← q) (stays b g.clear (portion b s bs room).state (fit_portion_lem b g.clear s g.fit bs room) (rw q w.0))
 
   end_given : (s : State) (n : ℕ) (r : Refusal) → (block_end b s).answer ≡ Stopped n r → Given s (block_end b s) (end_gave b s)
@@ -112,11 +111,11 @@ module _ (b : List ℕ) where
   pub stays_after_end : (s : State) (n : ℕ) (r : Refusal) → (block_end b s).answer ≡ Stopped n r → SameStop (traces b) (block_end b s).state r
   stays_after_end s n r e =
       let g = end_given s n r e in
-      let w = told_end s n r (ap (λ (x : Gave). x.answer) (sym g.gave) ∙ e) in
-      let q : (block_end b s).state ≡ (end_gave b s).state = ap (λ (x : Gave). x.state) g.gave in
+      let w = told_end s n r (ap (λ (x : Gave State). x.answer) (sym g.gave) ∙ e) in
+      let q : (block_end b s).state ≡ (end_gave b s).state = ap (λ (x : Gave State). x.state) g.gave in
       rw (w.1, ← q) (stays b g.clear (block_end b s).state (fit_block_end b g.clear s g.fit) (rw q w.0))
 
-  pub stopping : header_fault b ≡ Clear → Stopping (traces b) (fitb b) (trace_stop b)
+  pub stopping : header_fault b ≡ Ok tt → Stopping (traces b) (fitb b) (trace_stop b)
   stopping clear =
       record {
         stays_after_portion = stays_after_portion;

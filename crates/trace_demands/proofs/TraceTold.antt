@@ -1,5 +1,6 @@
 -- The stops of a trace body are told by their rows; and an opening that is refused gives a state that no block fits.
 -- Assumes nothing.
+use Rattle.std.specs.Prelude.{Err, Ok, Result, ⊤}
 use Prim.Native.Nat.{ℕ, ◌≤◌, ◌<◌}
 use mathlib.Core.Path.{◌≡◌, refl, sym, subst}
 use mathlib.Core.Bool.{Bool, true, false, ◌||◌}
@@ -9,8 +10,6 @@ use borrow.Author.Tests.{eqb-true, lt-leb}
 use lib.Dec.{eqb}
 use Rattle.basis.specs.Choice.{pick, ◌or◌}
 use Rattle.refusals.specs.declared.Refusal.{Refusal}
-use Rattle.refusals.specs.declared.Fault.{Fault}
-use Rattle.refusals.specs.declared.Fault.TheVariants.{Clear, At}
 use Rattle.refusals.specs.Table.{said, stop_refusal}
 use Rattle.general.specs.General.{code_of}
 use Rattle.header.specs.Faults.{header_fault}
@@ -36,13 +35,13 @@ halts_told laws.trace = trace
 halts_told laws.count = count
 halts_told laws.four = four
 
-pub stop_told : (b : List ℕ) (d : Body) (r : Refusal) → rules.stop_of b d ≡ At r → Told b d r
+pub stop_told : (b : List ℕ) (d : Body) (r : Refusal) → rules.stop_of b d ≡ Err r → Told b d r
 stop_told b d r e = go (subst (Stops (byte_fault b d) (end_fault b d) d) e (stop_first b d))
   where
     by : {p : ℕ} (i : ℕ) → i ≤ ends d → Halts b i p r → Told b d r
     by i l h = record { trace = i; inside = l; told = subst (λ (q : ℕ). StopTold b i q (said r)) (sym (halts_at h)) (halts_told h) }
 
-    go : Stops (byte_fault b d) (end_fault b d) d (At r) → Told b d r
+    go : Stops (byte_fault b d) (end_fault b d) d (Err r) → Told b d r
     go (at_byte i n l h f c x) = by i l (byte_halts b d i _ _ r f)
     go (at_end i l f c x) = by i (omega (arith, l)) (end_halts b d i _ _ r f)
 
@@ -87,7 +86,7 @@ unfolding fresh
 zero_unfit c false e = refl
 zero_unfit c true e = absurd (omega (arith, (fit_of c (fresh 0) e).demuxed))
 
-pub shut : (b c : List ℕ) (r : Refusal) → header_fault b ≡ At r → fitb c (opened b) ≡ false
+pub shut : (b c : List ℕ) (r : Refusal) → header_fault b ≡ Err r → fitb c (opened b) ≡ false
 unfolding opened
 shut b c r e = rw e (zero_unfit c (fitb c (fresh 0)) refl)
 
@@ -95,6 +94,6 @@ pub no_traces : (b c : List ℕ) → code_of b < 0x8000 → fitb c (opened b) �
 unfolding opened pick
 no_traces b c l = go (header_fault b) refl
   where
-    go : (f : Fault) → header_fault b ≡ f → fitb c (opened_on (header_fault b) (code_of b)) ≡ false
-    go (At r) e = rw e (zero_unfit c (fitb c (fresh 0)) refl)
-    go Clear e = rw (e, lt-leb 0x8000 (code_of b) l) (zero_unfit c (fitb c (fresh 0)) refl)
+    go : (f : Result ⊤ Refusal) → header_fault b ≡ f → fitb c (opened_on (header_fault b) (code_of b)) ≡ false
+    go (Err r) e = rw e (zero_unfit c (fitb c (fresh 0)) refl)
+    go (Ok tt) e = rw (e, lt-leb 0x8000 (code_of b) l) (zero_unfit c (fitb c (fresh 0)) refl)

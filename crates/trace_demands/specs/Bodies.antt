@@ -1,18 +1,13 @@
 -- What the first and the third demand say of the calls on a body, whatever its kind: once, over the states of its reader. Bodies of scans and bodies of traces are instances.
 -- Assumes nothing.
-use Rattle.std.specs.Prelude.{ℕ, ◌*◌, ◌<◌, ◌≡◌, Bool, true, false, List, [], ◌∷◌, ◌++◌, ℤ, length, take, drop}
+use Rattle.std.specs.Prelude.{ℕ, ◌*◌, ◌<◌, ◌≡◌, Bool, true, false, List, [], ◌∷◌, ◌++◌, ℤ, length, take, drop, Err, Ok, Result, ⊤}
 use Rattle.refusals.specs.declared.Refusal.{Refusal}
 use Rattle.refusals.specs.declared.Refusal.TheVariants as refusal
-use Rattle.refusals.specs.declared.Fault.{Fault}
-use Rattle.refusals.specs.declared.Fault.TheVariants.{Clear, At}
 use Rattle.runs.specs.Runs.{over}
 use Rattle.stream.specs.declared.Answer.{Answer}
 use Rattle.stream.specs.declared.Answer.TheVariants as answer
 use Rattle.stream.specs.Calls.{samples_told, lacks_room}
-use Rattle.body.specs.declared.Itb.TheVariants as itb
-use Rattle.body.specs.declared.Window.TheVariants as window
-use Rattle.body.specs.declared.Closed.TheVariants as closed
-use Rattle.body.specs.declared.Closing.{Closing}
+use Rattle.body.specs.declared.Report.{Report}
 use Rattle.agree.specs.Calls.{Call, put, end}
 
 -- the calls on a body, from a state of its reader
@@ -25,7 +20,7 @@ pub record Calls (S : Type 0) : Type 0 where
   pub ended : S → S
   pub end_answered : S → Answer
   -- the closing question
-  pub closed : S → Closing
+  pub closed : S → Result Report Refusal
 
 -- a state, and the numbers written so far; and call after call
 pub record Reading (S : Type 0) : Type 0 where
@@ -37,11 +32,6 @@ read_on k c [] = c
 read_on k c (put bs room ∷ cs) = read_on k (record { state = k.portion c.state bs room; numbers = c.numbers ++ k.written c.state bs room }) cs
 read_on k c (end ∷ cs) = read_on k (record { state = k.ended c.state; numbers = c.numbers }) cs
 
--- a closing that is refused, with nothing in its report
-abbrev pub unreported : Refusal → Closing
-unreported r =
-    record { answer = closed.Refused r; report = record { scans = 0; samples = 0; off = 0; last_type = 0; itb = itb.None; window = window.None } }
-
 -- ---- 1
 -- Nothing is changed and nothing is written: every call is answered a and the closing question is refused by r, whatever is lent, however many calls there are.
 pub record Idle {S : Type 0} (k : Calls S) (s : S) (a : Answer) (r : Refusal) : Type 0 where
@@ -50,7 +40,7 @@ pub record Idle {S : Type 0} (k : Calls S) (s : S) (a : Answer) (r : Refusal) : 
   pub writes : (bs : List ℕ) (room : ℕ) → k.written s bs room ≡ []
   pub ends : k.ended s ≡ s
   pub end_answers : k.end_answered s ≡ a
-  pub closes : k.closed s ≡ unreported r
+  pub closes : k.closed s ≡ Err r
   pub forever : (w : List ℤ) (cs : List Call) → read_on k (record { state = s; numbers = w }) cs ≡ record { state = s; numbers = w }
 
 -- "writes nothing further, and gives the same refusal from then on"
@@ -73,16 +63,16 @@ pub record NoTrace {S : Type 0} (k : Calls S) (s : S) (bs : List ℕ) (room : �
 
 -- "A body that stops .. keeps the samples completed before it, writes nothing further, and gives the same refusal from then on", of a reader that has its fit
 -- states and the stop that each of them keeps
-pub record Stopping {S : Type 0} (k : Calls S) (fits : S → Bool) (kept : S → Fault) : Type 0 where
+pub record Stopping {S : Type 0} (k : Calls S) (fits : S → Bool) (kept : S → Result ⊤ Refusal) : Type 0 where
   -- a call that answers with a stop leaves a state that keeps it
   pub stays_after_portion : (s : S) (bs : List ℕ) (room n : ℕ) (r : Refusal) → k.answered s bs room ≡ answer.Stopped n r → SameStop k (k.portion s bs room) r
   pub stays_after_end : (s : S) (n : ℕ) (r : Refusal) → k.end_answered s ≡ answer.Stopped n r → SameStop k (k.ended s) r
   -- and so does every fit state that has a stop, wherever it comes from
-  pub stopped : (s : S) (r : Refusal) → fits s ≡ true → kept s ≡ At r → SameStop k s r
+  pub stopped : (s : S) (r : Refusal) → fits s ≡ true → kept s ≡ Err r → SameStop k s r
   -- a state that is not fit is refused by every call
   pub unfit : (s : S) → fits s ≡ false → Unmoved k s
   -- "A portion needs twice its length in output numbers"
-  pub room : (s : S) (bs : List ℕ) (room : ℕ) → fits s ≡ true → kept s ≡ Clear → room < 2 * length bs → NoTrace k s bs room
+  pub room : (s : S) (bs : List ℕ) (room : ℕ) → fits s ≡ true → kept s ≡ Ok tt → room < 2 * length bs → NoTrace k s bs room
 
 -- ---- 3
 -- "A portion needs twice its length in output numbers"

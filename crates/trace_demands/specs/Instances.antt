@@ -1,9 +1,7 @@
 -- The calls on a body of scans, and those on a body of traces with one header block lent at every call: both are calls on a body.
 -- Assumes nothing.
-use Rattle.std.specs.Prelude.{ℕ, List, eqb}
+use Rattle.std.specs.Prelude.{ℕ, List, eqb, Err, Ok, Result, ⊤}
 use Rattle.basis.specs.Choice.{pick}
-use Rattle.refusals.specs.declared.Fault.{Fault}
-use Rattle.refusals.specs.declared.Fault.TheVariants.{Clear, At}
 use Rattle.refusals.specs.Table.{stop_refusal}
 use Rattle.scan.specs.declared.State as scan
 use Rattle.stream.specs.Calls as stream
@@ -13,6 +11,7 @@ use Rattle.trace.specs.Answers.{stop_of}
 use Rattle.trace_stream.specs.Calls as traceStream
 use Rattle.trace_body.specs.Calls as traceBody
 use Rattle.trace_demands.specs.Bodies.{Calls}
+use Rattle.refusals.specs.declared.Refusal.{Refusal}
 
 abbrev pub scans : Calls scan.State
 scans =
@@ -38,8 +37,8 @@ traces b =
     }
 
 -- the stop that a state keeps: none where its number is 0
-abbrev pub scan_stop : scan.State → Fault
-scan_stop s = pick (eqb s.stop 0) Clear (At (stop_refusal s.stop s.stopat))
+abbrev pub scan_stop : scan.State → Result ⊤ Refusal
+scan_stop s = pick (eqb s.stop 0) (Ok tt) (Err (stop_refusal s.stop s.stopat))
 
-abbrev pub trace_stop : List ℕ → trace.State → Fault
-trace_stop b s = pick (eqb s.stop 0) Clear (At (stop_of b s))
+abbrev pub trace_stop : List ℕ → trace.State → Result ⊤ Refusal
+trace_stop b s = pick (eqb s.stop 0) (Ok tt) (Err (stop_of b s))

@@ -1,8 +1,7 @@
 -- The second demand for trace bodies: which scan type, set and channel each trace is, what its header says, and where its samples stand. What a word says is Demand2's, by the one
 -- table of codes.
 -- Assumes nothing.
-use Rattle.std.specs.Prelude.{ℕ, ◌≡◌, List}
-use Rattle.refusals.specs.declared.Fault.TheVariants.{Clear}
+use Rattle.std.specs.Prelude.{ℕ, ◌≡◌, List, Ok}
 use Rattle.general.specs.General.{code_of}
 use Rattle.header.specs.Faults.{header_fault}
 use Rattle.trace_demands.specs.Order.{InTurn}
@@ -18,4 +17,4 @@ pub record TraceDemand2 : Type 0 where
   -- "a 20-byte trace header as in the paper", each field
   pub headers : Headed
   -- "then samples of one channel": each at its own bytes of the trace
-  pub words : (b : List ℕ) → header_fault b ≡ Clear → TraceWords (code_of b)
+  pub words : (b : List ℕ) → header_fault b ≡ Ok tt → TraceWords (code_of b)

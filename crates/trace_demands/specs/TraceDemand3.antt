@@ -1,13 +1,11 @@
 -- The third demand for trace bodies: however a body is cut, what is read is what the rules say of the uncut body, trace by trace.
 -- Assumes nothing.
-use Rattle.std.specs.Prelude.{ℕ, suc, ◌+◌, ◌*◌, ◌-◌, ◌%◌, ◌≤◌, ◌<◌, ◌≡◌, List, length, take, drop}
-use Rattle.std.proofs.Math.Option.{none}
+use Rattle.std.specs.Prelude.{ℕ, suc, ◌+◌, ◌*◌, ◌-◌, ◌%◌, ◌≤◌, ◌<◌, ◌≡◌, List, length, take, drop, Ok, None}
 use Rattle.basis.specs.Digits.{written, byte_in}
 use Rattle.basis.specs.Fields.{field}
 use Rattle.basis.specs.Upto.{sum_upto}
 use Rattle.codes.specs.Codes.{per_of, lead_of, word_bytes_of}
 use Rattle.words.specs.Words.{value_of}
-use Rattle.refusals.specs.declared.Fault.TheVariants.{Clear}
 use Rattle.general.specs.General.{code_of, scan_types}
 use Rattle.sets.specs.Samples.{subscans_of, samples_of}
 use Rattle.header.specs.Faults.{header_fault}
@@ -65,8 +63,8 @@ pub record Whole (b : List ℕ) (d : Body) (t : Report) : Type 0 where
   pub samples : t.samples ≡ t.scans * samples_of b 0
   pub last_type : t.last_type ≡ scan_types b
   -- "ITB and TWI are reported as none"
-  pub itb : t.itb ≡ none
-  pub window : t.window ≡ none
+  pub itb : t.itb ≡ None
+  pub window : t.window ≡ None
 
 pub record TraceDemand3 : Type 0 where
   -- from every accepted header block of an 80xx code and every list of calls, "with the header block of the opening lent unchanged at every call": every state is fit for the
@@ -79,9 +77,9 @@ pub record TraceDemand3 : Type 0 where
   -- the samples of the uncut body are there one by one,
   pub order : (b : List ℕ) (d : Body) → InOrder b d
   -- and those that are completed are those whose words end before the stop
-  pub completed : (b : List ℕ) (d : Body) → header_fault b ≡ Clear → (k i : ℕ) → i < done_there b d k → word_begins (code_of b) i + word_bytes_of (code_of b) ≤ bytes_in d (bytes_read b d) k
-  pub given : (b : List ℕ) (d : Body) → header_fault b ≡ Clear → (k i : ℕ) → word_begins (code_of b) i + word_bytes_of (code_of b) ≤ bytes_in d (bytes_read b d) k → i < done_there b d k
-  pub whole : (b : List ℕ) (d : Body) (t : Report) → header_fault b ≡ Clear → closing b d ≡ report t → Whole b d t
+  pub completed : (b : List ℕ) (d : Body) → header_fault b ≡ Ok tt → (k i : ℕ) → i < done_there b d k → word_begins (code_of b) i + word_bytes_of (code_of b) ≤ bytes_in d (bytes_read b d) k
+  pub given : (b : List ℕ) (d : Body) → header_fault b ≡ Ok tt → (k i : ℕ) → word_begins (code_of b) i + word_bytes_of (code_of b) ≤ bytes_in d (bytes_read b d) k → i < done_there b d k
+  pub whole : (b : List ℕ) (d : Body) (t : Report) → header_fault b ≡ Ok tt → closing b d ≡ report t → Whole b d t
   -- "a scan type is seen once its last trace has ended": after n ends the first t of them are, exactly where no trace of theirs is to come
   pub seen : (b : List ℕ) (d : Body) (n t : ℕ) → t ≤ types_seen b d n → first_of b t ≤ n
   pub ended : (b : List ℕ) (d : Body) (n t : ℕ) → 0 < n → t ≤ scan_types b → first_of b t ≤ n → t ≤ types_seen b d n

@@ -1,9 +1,7 @@
 -- "a 20-byte trace header as in the paper", field by field. x 1 to x 20 are its bytes, counted from 1 as the page counts them; u is the trace's turn, which counts from 0.
 -- Assumes nothing.
-use Rattle.std.specs.Prelude.{ℕ, ◌+◌, ◌-◌, ◌/◌, ◌%◌, ◌≤◌, ◌<◌, ◌≡◌, false, List, []}
+use Rattle.std.specs.Prelude.{ℕ, ◌+◌, ◌-◌, ◌/◌, ◌%◌, ◌≤◌, ◌<◌, ◌≡◌, false, List, [], Ok, Some}
 use Rattle.basis.specs.Digits.{byte_in}
-use Rattle.refusals.specs.declared.Fault.TheVariants.{Clear}
-use Rattle.block.specs.declared.Pair.TheVariants.{Digits}
 use Rattle.block.specs.Bytes.{byte, packed_of}
 use Rattle.general.specs.General.{skew_fields}
 use Rattle.layout.specs.Indexes.{index_of}
@@ -18,10 +16,10 @@ pub record TraceHeader (b : List ℕ) (u : Turn) (x : ℕ → ℕ) : Type 0 wher
   -- "Trace header digits must agree with the file number",
   pub file : (n : ℕ) → 1 ≤ n → n ≤ 2 → x n ≡ byte b n
   -- "and the trace's turn": scan type, set and channel, which the page counts from 1
-  pub scan_type : packed_of (x 3) ≡ Digits (u.scan_type + 1)
-  pub set : packed_of (x 4) ≡ Digits (u.set + 1)
-  pub hundreds : packed_of (x 5) ≡ Digits ((u.channel + 1) / 100)
-  pub channel : packed_of (x 6) ≡ Digits ((u.channel + 1) % 100)
+  pub scan_type : packed_of (x 3) ≡ Some (u.scan_type + 1)
+  pub set : packed_of (x 4) ≡ Some (u.set + 1)
+  pub hundreds : packed_of (x 5) ≡ Some ((u.channel + 1) / 100)
+  pub channel : packed_of (x 6) ≡ Some ((u.channel + 1) % 100)
   -- "byte 11 must be the channel's first skew byte where SK is not 0": that of its sample in subscan 0
   pub skew : (skew_fields b ≡ 0 → ⊥) → x 11 ≡ skew_byte b [] u.scan_type (index_of b (u.scan_type + 1) (u.set + 1) (u.channel + 1) 0)
   -- "bytes 10, 12 and 16-20 are zero"
@@ -38,4 +36,4 @@ pub record Headed : Type 0 where
   pub sound : (b : List ℕ) (i : ℕ) (x : ℕ → ℕ) → Sound b i x → TraceHeader b (turn_at b i) x
   pub all : (b : List ℕ) (i : ℕ) (x : ℕ → ℕ) → TraceHeader b (turn_at b i) x → Sound b i x
   -- so it is in every trace of a body that does not stop: byte n of trace k is byte n of block k
-  pub read : (b : List ℕ) (d : Body) → stop_of b d ≡ Clear → (k : ℕ) → k < ends d → TraceHeader b (turn_at b k) (λ n. byte_in (block_of d k) (n - 1))
+  pub read : (b : List ℕ) (d : Body) → stop_of b d ≡ Ok tt → (k : ℕ) → k < ends d → TraceHeader b (turn_at b k) (λ n. byte_in (block_of d k) (n - 1))

@@ -1,11 +1,11 @@
 -- Laws of the rules of a trace body by themselves.
 -- Assumes nothing.
+use Rattle.std.specs.Prelude.{Err}
 use Prim.Native.Nat.{ℕ, ◌+◌}
 use mathlib.Core.Path.{◌≡◌, refl, sym, subst}
 use mathlib.Core.List.{List}
 use Rattle.refusals.specs.declared.Refusal.{Refusal}
 use Rattle.refusals.specs.declared.Refusal.TheVariants.{Long, Block, FourAt, Trace, Count}
-use Rattle.refusals.specs.declared.Fault.TheVariants.{At}
 use Rattle.refusals.specs.Table.{stop_place}
 use Rattle.turns.specs.Turns.{turn_at}
 use Rattle.rules.specs.Tape.{Body}
@@ -32,13 +32,13 @@ halts_at count = refl
 halts_at four = refl
 
 module _ (b : List ℕ) (d : Body) where
-  pub byte_halts : (i s p : ℕ) (r : Refusal) → byte_fault b d i s p ≡ At r → Halts b i p r
+  pub byte_halts : (i s p : ℕ) (r : Refusal) → byte_fault b d i s p ≡ Err r → Halts b i p r
   unfolding byte_fault
   byte_halts i s p =
       only_or (Halts b i p) _ _ (only_when (Halts b i p) _ (Long p) long)
       (only_or (Halts b i p) _ _ (only_when (Halts b i p) _ (Block p) block) (only_when (Halts b i p) _ (Trace p) trace))
 
-  pub end_halts : (i s p : ℕ) (r : Refusal) → end_fault b d i s p ≡ At r → Halts b i p r
+  pub end_halts : (i s p : ℕ) (r : Refusal) → end_fault b d i s p ≡ Err r → Halts b i p r
   unfolding end_fault
   end_halts i s p =
       only_or (Halts b i p) _ _ (only_when (Halts b i p) _ (Block p) block)

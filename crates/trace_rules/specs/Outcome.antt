@@ -1,11 +1,9 @@
 -- What a trace body comes to: its stop, its samples, and the answer to the closing question. b is the header block, d the body; traces count from 0.
 -- Assumes nothing.
-use Rattle.std.specs.Prelude.{ℕ, zero, suc, ◌-◌, min, Bool, not, List, eqb, ltb, ℤ, length}
-use Rattle.std.proofs.Math.Option.{none}
+use Rattle.std.specs.Prelude.{ℕ, zero, suc, ◌-◌, min, Bool, not, List, eqb, ltb, ℤ, length, Result, ⊤, None}
 use Rattle.basis.specs.Choice.{pick, ◌and◌, ◌or◌}
 use Rattle.basis.specs.Upto.{sum_upto, list_upto}
 use Rattle.refusals.specs.declared.Refusal.TheVariants.{Part, Open, Missing}
-use Rattle.refusals.specs.declared.Fault.{Fault}
 use Rattle.refusals.specs.Order.{when, or_else}
 use Rattle.general.specs.General.{code_of, scan_types}
 use Rattle.turns.specs.Turns.{type_at, turn_at}
@@ -13,6 +11,7 @@ use Rattle.rules.specs.Tape.{Body, ends, length_of, start_of, byte_at, size, fir
 use Rattle.rules.specs.Outcome.{Report, Closing, answered, bytes_before}
 use Rattle.trace_rules.specs.Samples.{samples_in, left_in, numbers_at, off_at}
 use Rattle.trace_rules.specs.Faults.{scans_of, byte_fault, end_fault}
+use Rattle.refusals.specs.declared.Refusal.{Refusal}
 
 -- how many bytes of trace k come before place p of the body
 abbrev pub bytes_in : Body → ℕ → ℕ → ℕ
@@ -56,7 +55,7 @@ module _ (b : List ℕ) (d : Body) where
 
   -- ---- of a whole body
   -- "14 to 18 stop the body", here 8, 14, 15, 24 and 25: at the first fault in tape order
-  abbrev pub stop_of : Fault
+  abbrev pub stop_of : Result ⊤ Refusal
   stop_of = first_fault (byte_fault b d) (end_fault b d) d
 
   -- how many samples are "completed before a stop", or the body's end, and those samples, M then X
@@ -74,8 +73,8 @@ module _ (b : List ℕ) (d : Body) where
         samples = done_before (size d);
         off = off_before (size d);
         last_type = types_seen (ends d);
-        itb = none;
-        window = none;
+        itb = None;
+        window = None;
       }
 
   -- "PART is closing inside a trace header or with bytes left over (in 8015, any unfinished group of ten)", of n bytes of a trace that has not ended
@@ -83,7 +82,7 @@ module _ (b : List ℕ) (d : Body) where
   part_left n = (ltb 0 n and ltb n 20) or not (eqb (left_in (code_of b) n) 0)
 
   -- "Closing: 23, earlier stop, 19, 20, 21", without 23 since there is no state here: bytes of a trace that has not ended; fewer scan types seen than ST/R
-  abbrev pub closing_fault : Fault
+  abbrev pub closing_fault : Result ⊤ Refusal
   closing_fault =
       or_else stop_of
       (or_else (when (part_left (length d.tail)) Part)

@@ -1,248 +1,175 @@
-// One byte of a trace body.
-ghost use Rattle.std.specs.Prelude.{◌≡◌, ◌+◌, ◌≤◌, ◌<◌};
+// One byte of a trace body. moved, quiet, sample and word have namesakes in stream, whose state counts other things: a trait for both states, with its laws, would be longer than they are.
+ghost use Rattle.std.specs.Prelude.{◌≡◌, ◌≤◌, ◌<◌};
 ghost use Rattle.turns.specs.Turns as Turns;
-ghost use Rattle.scan.specs.Step as Scan;
 ghost use Rattle.codes.specs.Codes.{group_of};
-ghost use Rattle.words.specs.Words.{off_one};
 ghost use Rattle.trace.specs.Step as Step;
 ghost use Rattle.trace.specs.Fit.{Fit};
 
-use block::{Pair, byte_at, packed, pair_at};
-use trace::{Look, State, Stepped, halted};
+use block::{byte_at, packed, pair_at};
+use scan::Stepped;
+use stream::byte::{low, nibble, shift, still};
+use trace::{Look, State, halted};
 use turns::{Turn, skew_at};
 use words::Value;
 
-// A state as it is, with nothing written.
-fn still(s: State) -> Stepped
-    ensures { result ≡ Step.still s }
-{
-    Stepped {
-        state: s,
-        completed: false,
-        value: Value {
-            m: 0,
-            x: 0,
-            off: false,
-        },
-    }
-}
-
-// The body stops at this byte, which writes nothing.
-fn halt(s: State, number: u32) -> Stepped
+// The body stops at this byte, which writes nothing, by the refusal of this number, which is what the state keeps: C holds it.
+fn halt(s: State, number: u32) -> Stepped<State>
     ensures { result ≡ Step.halt s number }
 {
     still(halted(s, number))
-}
-
-// The last four bytes, after one more.
-fn shift(held: u32, x: u8) -> u32
-    ensures { result ≡ Scan.shift held x }
-{
-    held % 16777216 * 256 + x as u32
-}
-
-// One byte on.
-fn moved(s: State, n: u32, off: u32, e: u32, x: u8) -> State
-    requires { (s.place < 4294967295) × (s.at ≤ s.place) }
-    ensures { result ≡ Step.moved s n off e x }
-{
-    let mut t = s;
-    t.place = t.place + 1;
-    t.at = t.at + 1;
-    t.samples = n;
-    t.off = off;
-    t.held = shift(t.held, x);
-    t.exponents = e;
-    t
-}
-
-// A byte that tells nothing by itself.
-fn quiet(s: State, x: u8) -> Stepped
-    requires { (s.place < 4294967295) × (s.at ≤ s.place) }
-    ensures { result ≡ Step.quiet s x }
-{
-    still(moved(s, s.samples, s.off, s.exponents, x))
 }
 
 // Whether a byte is the digit pair that writes a number.
 fn writes(x: u8, n: u32) -> bool
     ensures { result ≡ Turns.writes x n }
 {
-    let p = packed(x);
-    match p {
-        Pair::Digits(d) => d as u32 == n,
-        Pair::NoPair => false,
+    match packed(x) {
+        Some(d) => u32::from(d) == n,
+        None => false,
     }
 }
 
-// The digit pair that byte n of a trace header, 3 to 6, must be: scan type, set, channel.
-fn digits(u: Turn, n: u32) -> u32
-    requires { u.channel < 4294967295 }
-    ensures { result ≡ Step.digits u n }
-{
-    if n == 3 {
-        return u.scan_type as u32 + 1;
-    }
-    if n == 4 {
-        return u.set as u32 + 1;
-    }
-    if n == 5 {
-        return (u.channel + 1) / 100;
-    }
-    (u.channel + 1) % 100
+// The header of a trace whose turn is known: the header block, and the turn.
+#[derive(Clone, Copy)]
+struct Heading<'a> {
+    block: &'a [u8],
+    turn: Turn,
+    ghost counted: { turn.channel < 4294967295 },
 }
 
-// Whether a byte may stand as byte n, 1 to 6: the file number and the turn.
-fn named(b: &[u8], u: Turn, n: u32, x: u8) -> bool
-    requires { u.channel < 4294967295 }
-    ensures { result ≡ Step.namedb b.now u n x }
-{
-    if n <= 2 {
-        return x == byte_at(b, n as u16);
+impl Heading<'_> {
+    // The digit pair that byte n, 3 to 6, must be: scan type, set, channel.
+    fn digits(self, n: u32) -> u32
+        ensures { result ≡ Step.digits self.entry.turn n }
+    {
+        match n {
+            3 => u32::from(self.turn.scan_type) + 1,
+            4 => u32::from(self.turn.set) + 1,
+            5 => (self.turn.channel + 1) / 100,
+            _ => (self.turn.channel + 1) % 100,
+        }
     }
-    writes(x, digits(u, n))
-}
 
-// Whether byte n may be anything.
-fn free(n: u32) -> bool
-    ensures { result ≡ Step.freeb n }
-{
-    ((7 <= n) & (n <= 9)) | ((13 <= n) & (n <= 15))
-}
-
-// Whether a byte may stand as byte 11: the channel's first skew byte, where SK is not 0.
-fn skewed(b: &[u8], u: Turn, x: u8) -> bool
-    ensures { result ≡ Step.skewb b.now u x }
-{
-    if pair_at(b, 30) == 0 {
-        return true;
+    // Whether a byte may stand as byte 11: the channel's first skew byte, where SK is not 0.
+    fn skewed(self, x: u8) -> bool
+        ensures { result ≡ Step.skewb self.entry.block.now self.entry.turn x }
+    {
+        pair_at(self.block, 30) == 0 || x == skew_at(self.block, self.turn)
     }
-    x == skew_at(b, u)
-}
 
-// Whether a byte may stand as byte n, 7 to 20: a free one, the skew byte, or zero.
-fn other(b: &[u8], u: Turn, n: u32, x: u8) -> bool
-    ensures { result ≡ Step.otherb b.now u n x }
-{
-    if n == 11 {
-        return skewed(b, u, x);
-    }
-    if free(n) {
-        return true;
-    }
-    x == 0
-}
-
-// Whether a byte may stand as byte n of the header of the turn's trace.
-fn sound(b: &[u8], u: Turn, n: u32, x: u8) -> bool
-    requires { u.channel < 4294967295 }
-    ensures { result ≡ Step.soundb b.now u n x }
-{
-    if n <= 6 {
-        return named(b, u, n, x);
-    }
-    other(b, u, n, x)
-}
-
-// A byte of the trace header, or TRACE.
-fn headed(b: &[u8], u: Turn, s: State, x: u8) -> Stepped
-    requires { (s.place < 4294967295) × (s.at ≤ s.place) × (u.channel < 4294967295) }
-    ensures { result ≡ Step.headed b.now u s x }
-{
-    if sound(b, u, s.at + 1, x) {
-        quiet(s, x)
-    } else {
-        halt(s, 24)
+    // Whether a byte may stand as byte n: of 1 to 6 the file number and the turn, then a free one, the skew byte, or zero.
+    fn sound(self, n: u32, x: u8) -> bool
+        ensures { result ≡ Step.soundb self.entry.block.now self.entry.turn n x }
+    {
+        match n {
+            0..=2 => x == byte_at(self.block, n as u16),
+            3..=6 => writes(x, self.digits(n)),
+            7..=9 | 13..=15 => true,
+            11 => self.skewed(x),
+            _ => x == 0,
+        }
     }
 }
 
-// The last w bytes.
-fn low(held: u32, w: u32) -> u32
-    requires { (0 < w) × (w ≤ 4) × (w ≡ 3 → ⊥) }
-    ensures { result ≡ Scan.low held w }
-{
-    if w == 1 {
-        return held % 256;
-    }
-    if w == 2 {
-        return held % 65536;
-    }
-    held
+// A state that takes one byte more.
+#[derive(Clone, Copy)]
+struct Going {
+    state: State,
+    ghost place: { state.place < 4294967295 },
+    ghost counts: { (state.at ≤ state.place) × (state.off ≤ state.place) × (state.samples ≤ state.place) },
 }
 
-// The exponent of the word that ends at byte g of its group.
-fn nibble(e: u32, g: u32) -> u32
-    requires { g < 10 }
-    ensures { result ≡ Scan.nibble e g }
-{
-    (e >> (18 - 2 * g)) % 16
-}
-
-// Off-rule words, with one word more.
-fn count(off: u32, v: Value) -> u32
-    requires { off < 4294967295 }
-    ensures { result ≡ off + off_one v }
-{
-    if v.off { off + 1 } else { off }
-}
-
-// The last byte of a word.
-fn sample(s: State, v: Value, x: u8) -> Stepped
-    requires { (s.place < 4294967295) × (s.at ≤ s.place) × (s.off ≤ s.place) × (s.samples ≤ s.place) }
-    ensures { result ≡ Step.sample s v x }
-{
-    let t = moved(s, s.samples + 1, count(s.off, v), s.exponents, x);
-    Stepped {
-        state: t,
-        completed: true,
-        value: v,
+impl Going {
+    // One byte on.
+    fn moved(self, n: u32, off: u32, e: u32, x: u8) -> State
+        ensures { result ≡ Step.moved self.state n off e x }
+    {
+        let s = self.state;
+        State {
+            place: s.place + 1,
+            at: s.at + 1,
+            samples: n,
+            off,
+            held: shift(s.held, x),
+            exponents: e,
+            ..s
+        }
     }
-}
 
-// Byte q of words of w bytes.
-fn plain(s: State, w: u32, x: u8, q: u32) -> Stepped
-    requires w_nonzero { (0 < w) × (w ≤ 4) × (w ≡ 3 → ⊥) × (q < 4294967295) }
-    requires place_bound { (s.place < 4294967295) × (s.at ≤ s.place) × (s.off ≤ s.place) × (s.samples ≤ s.place) }
-    ensures { result ≡ Step.plain s w x q }
-{
-    if (q + 1) % w == 0 {
-        let held = shift(s.held, x);
-        return sample(s, words::read(s.code, 0, low(held, w)), x);
+    // A byte that tells nothing by itself.
+    fn quiet(self, x: u8) -> Stepped<State>
+        ensures { result ≡ Step.quiet self.state x }
+    {
+        let s = self.state;
+        still(self.moved(s.samples, s.off, s.exponents, x))
     }
-    quiet(s, x)
-}
 
-// Byte g of a group of 8015.
-fn grouped(s: State, x: u8, g: u32) -> Stepped
-    requires g_bound { g < 10 }
-    requires place_bound { (s.place < 4294967295) × (s.at ≤ s.place) × (s.off ≤ s.place) × (s.samples ≤ s.place) }
-    ensures { result ≡ Step.grouped s x g }
-{
-    if g % 2 == 0 {
-        return quiet(s, x);
+    // A byte of the trace header, or TRACE.
+    fn headed(self, h: Heading, x: u8) -> Stepped<State>
+        ensures { result ≡ Step.headed h.entry.block.now h.entry.turn self.state x }
+    {
+        if h.sound(self.state.at + 1, x) {
+            self.quiet(x)
+        } else {
+            halt(self.state, 24)
+        }
     }
-    let two = low(shift(s.held, x), 2);
-    if g == 1 {
-        return still(moved(s, s.samples, s.off, two, x));
-    }
-    sample(s, words::read(s.code, nibble(s.exponents, g), two), x)
-}
 
-// A byte of the sample words, in groups of w bytes.
-fn word(s: State, w: u32, x: u8) -> Stepped
-    requires code_value { (group_of s.code ≡ w) × (0 < w) × (20 ≤ s.at) }
-    requires place_bound { (s.place < 4294967295) × (s.at ≤ s.place) × (s.off ≤ s.place) × (s.samples ≤ s.place) }
-    ensures { result ≡ Step.word s w x }
-{
-    let q = s.at - 20;
-    if w == 10 {
-        return grouped(s, x, q % 10);
+    // The last byte of a word.
+    fn sample(self, v: Value, x: u8) -> Stepped<State>
+        ensures { result ≡ Step.sample self.state v x }
+    {
+        let s = self.state;
+        let off = s.off + u32::from(v.off);
+        Stepped {
+            state: self.moved(s.samples + 1, off, s.exponents, x),
+            value: Some(v),
+        }
     }
-    plain(s, w, x, q)
+
+    // Byte q of words of w bytes.
+    fn plain(self, w: u32, x: u8, q: u32) -> Stepped<State>
+        requires { (0 < w) × (w ≤ 4) × (w ≡ 3 → ⊥) × (q < 4294967295) }
+        ensures { result ≡ Step.plain self.state w x q }
+    {
+        if (q + 1) % w == 0 {
+            let held = shift(self.state.held, x);
+            return self.sample(words::read(self.state.code, 0, low(held, w)), x);
+        }
+        self.quiet(x)
+    }
+
+    // Byte g of a group of 8015.
+    fn grouped(self, x: u8, g: u32) -> Stepped<State>
+        requires { g < 10 }
+        ensures { result ≡ Step.grouped self.state x g }
+    {
+        if g % 2 == 0 {
+            return self.quiet(x);
+        }
+        let s = self.state;
+        let two = low(shift(s.held, x), 2);
+        if g == 1 {
+            return still(self.moved(s.samples, s.off, two, x));
+        }
+        self.sample(words::read(s.code, nibble(s.exponents, g), two), x)
+    }
+
+    // A byte of the sample words, in groups of w bytes.
+    fn word(self, w: u32, x: u8) -> Stepped<State>
+        requires { (group_of self.state.code ≡ w) × (0 < w) × (20 ≤ self.state.at) }
+        ensures { result ≡ Step.word self.state w x }
+    {
+        let q = self.state.at - 20;
+        if w == 10 {
+            return self.grouped(x, q % 10);
+        }
+        self.plain(w, x, q)
+    }
 }
 
 // One byte, of the trace that `k` tells of.
-pub(crate) fn step(b: &[u8], k: Look, s: State, x: u8) -> Stepped
+pub(crate) fn step(b: &[u8], k: Look, s: State, x: u8) -> Stepped<State>
     requires { (Fit b.now s) × (group_of s.code ≡ k.group) × (0 < k.group) × (k.turn.channel ≤ s.place) }
     ensures { result ≡ Step.step b.now k s x }
 {
@@ -255,8 +182,13 @@ pub(crate) fn step(b: &[u8], k: Look, s: State, x: u8) -> Stepped
     if k.past {
         return halt(s, 15);
     }
+    let going = Going { state: s };
     if s.at < 20 {
-        return headed(b, k.turn, s, x);
+        let heading = Heading {
+            block: b,
+            turn: k.turn,
+        };
+        return going.headed(heading, x);
     }
-    word(s, k.group, x)
+    going.word(k.group, x)
 }

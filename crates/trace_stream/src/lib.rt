@@ -8,25 +8,16 @@ ghost use Rattle.std.specs.Prelude.{◌≡◌, length};
 ghost use Rattle.runs.specs.Runs.{over};
 ghost use Rattle.trace_stream.specs.Calls as Calls;
 
-use refusals::{Fault, Refusal};
-use trace::{Gave, State, unchanged};
-use turns::trace_count;
+use stream::{Gave, unchanged};
+use trace::{State, admit};
 
 // A portion of the body's bytes. Each sample that it completes goes to `out`, M and then X.
-pub fn portion(block: &[u8], s: State, bytes: &[u8], out: &mut [i32]) -> Gave
+pub fn portion(block: &[u8], s: State, bytes: &[u8], out: &mut [i32]) -> Gave<State>
     ensures value { result ≡ Calls.portion block.now s bytes.now (length out.old) }
     ensures out_after { out.new ≡ over (Calls.portion_wrote block.now s bytes.now (length out.old)) out.old }
 {
-    let f = header::header_fault(block);
-    match f {
-        Fault::At(r) => unchanged(s, r),
-        Fault::Clear => {
-            let traces = trace_count(block);
-            if trace::fits(block, s, traces) {
-                feed::fit_portion(block, s, traces, bytes, out)
-            } else {
-                unchanged(s, Refusal::State)
-            }
-        }
+    match admit(block, s) {
+        Ok(traces) => feed::fit_portion(block, s, traces, bytes, out),
+        Err(r) => unchanged(s, r),
     }
 }

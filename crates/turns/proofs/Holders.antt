@@ -1,7 +1,7 @@
 -- The scan type or set of a trace, as a loop finds it; and where a turn's first skew byte stands.
 -- Assumes nothing.
 use Prim.Native.Nat.{ℕ, ◌+◌, ◌*◌, ◌-◌, ◌≤◌, ◌<◌}
-use mathlib.Core.Path.{◌≡◌, sym, ap, ◌∙◌}
+use mathlib.Core.Path.{◌≡◌, ap, ◌∙◌}
 use mathlib.Core.Bool.{true, false}
 use mathlib.Core.List.{List}
 use mathlib.Core.Logic.{⊎_elim}
@@ -34,18 +34,17 @@ set_last f k n h =
     ⊎_elim (λ (e : set_at f k n ≡ n). e) (λ (l : set_at f k n < n). absurd (omega (arith, a.ends l, sum_grows f (set_at f k n + 1) n (omega arith))))
     (eq-or-lt_of_le a.inside)
 
--- as a loop over n of them, at one that begins at g, finds it, or ends without
-pub found : (f : ℕ → ℕ) (k n m sets g x : ℕ) → sets ≡ n → g ≡ sum_upto f m → x ≡ f m → m < sets → g ≤ k → k - g < x → record { number = m; first = g } ≡ holder_of f k n
+-- as a loop over n of them, at the one m that begins at g, finds it, or ends without
+pub found : (f : ℕ → ℕ) (k n m g x : ℕ) → g ≡ sum_upto f m → x ≡ f m → m < n → g ≤ k → k - g < x → record { number = m; first = g } ≡ holder_of f k n
 unfolding holder_of
-found f k n m sets g x a e y h p z =
-    let q : set_at f k n ≡ m = set_is f k n m (omega arith) (omega arith) (omega (arith, ap (λ (v : ℕ). k - v) e)) in
+found f k n m g x e y h p z =
+    let q : set_at f k n ≡ m = set_is f k n m h (omega arith) (omega (arith, ap (λ (v : ℕ). k - v) e)) in
     rw (q, e)
 
-pub passed_all : (f : ℕ → ℕ) (k n m sets g : ℕ) → sets ≡ n → g ≡ sum_upto f m → m ≡ sets → g ≤ k → record { number = m; first = g } ≡ holder_of f k n
+pub passed_all : (f : ℕ → ℕ) (k n g : ℕ) → g ≡ sum_upto f n → g ≤ k → record { number = n; first = g } ≡ holder_of f k n
 unfolding holder_of
-passed_all f k n m sets g a e h p =
-    let r : m ≡ n = h ∙ a in
-    let q : set_at f k n ≡ m = set_last f k n (omega (arith, ap (sum_upto f) r)) ∙ sym r in
+passed_all f k n g e p =
+    let q : set_at f k n ≡ n = set_last f k n (omega arith) in
     rw (q, e)
 
 -- ---- the first skew byte of a turn's channel

@@ -1,9 +1,7 @@
 -- Whose turn a trace of a demultiplexed record is: "in order of scan type, set, channel". Traces, scan types, sets and channels count from 0.
 -- Assumes nothing.
-use Rattle.std.specs.Prelude.{ℕ, ◌+◌, ◌-◌, Bool, false, List, [], eqb}
+use Rattle.std.specs.Prelude.{ℕ, ◌+◌, ◌-◌, ◌<◌, ◌≡◌, Bool, false, List, [], eqb, None, Option, Some}
 use Rattle.basis.specs.Upto.{sum_upto}
-use Rattle.block.specs.declared.Pair.{Pair}
-use Rattle.block.specs.declared.Pair.TheVariants.{Digits, NoPair}
 use Rattle.block.specs.Bytes.{packed_of}
 use Rattle.general.specs.General.{scan_types, channel_sets}
 use Rattle.sets.specs.Samples.{channels_of, subscans_of}
@@ -23,6 +21,10 @@ trace_count b = sum_upto (traces_of b) (scan_types b)
 -- of n scan types or sets that have f 0, f 1, .. traces the one that trace k is in, as many as lie wholly before it, and its first trace
 unfoldable pub holder_of : (ℕ → ℕ) → ℕ → ℕ → Holder
 holder_of f k n = record { number = set_at f k n; first = sum_upto f (set_at f k n) }
+
+-- calls that answer f 0, f 1, .. for the numbers of a byte
+abbrev pub Answers : (ℕ → ℕ → Type 0) → (ℕ → ℕ) → Type 0
+Answers call f = (s x : ℕ) → s < 256 → call s x → x ≡ f s
 
 -- the scan type of trace i of the record; past the last trace ST/R
 unfoldable pub type_at : List ℕ → ℕ → Holder
@@ -50,9 +52,9 @@ skew_at b u = skew_byte b [] u.scan_type (index_of b (u.scan_type + 1) (u.set + 
 
 -- ---- the digits of a trace header
 -- a pair of digits is the number n
-abbrev pub pair_is : Pair → ℕ → Bool
-pair_is (Digits d) n = eqb d n
-pair_is NoPair n = false
+abbrev pub pair_is : Option ℕ → ℕ → Bool
+pair_is (Some d) n = eqb d n
+pair_is None n = false
 
 -- byte x is the digit pair that writes n
 unfoldable pub writes : ℕ → ℕ → Bool

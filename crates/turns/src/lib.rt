@@ -2,24 +2,24 @@
 // Every function takes any block: what a trace past the last one gets is fixed by the definitions, and `place` refuses it.
 #![tactic(auto)]
 
-ghost use Rattle.std.specs.Prelude.{◌≡◌, ◌<◌, ◌≤◌};
-ghost use Rattle.turns.specs.Turns.{traces_of, trace_count, type_at, set_in, turn_in, turn_at, subscans_at, skew_at};
+ghost use Rattle.std.specs.Prelude.{◌≡◌, ℕ, ◌<◌, ◌≤◌};
+ghost use Rattle.turns.specs.Turns.{traces_of, trace_count, Answers, holder_of, type_at, set_in, turn_in, turn_at, subscans_at, skew_at};
 ghost use Rattle.turns.specs.Places.{sample_of, placed_at};
 
 use block::{pair_at, word_at};
 use header::header_fault;
-use refusals::{Fault, Refusal};
+use refusals::Refusal;
 use sets::{channels, samples_before, subscans};
 
 // The scan type, or the set, that a trace is in: its number, and its first trace.
-#[derive(Clone, Copy)]
+#[derive(Clone, Copy, Debug, PartialEq, Eq)]
 pub struct Holder {
     pub number: u8,
     pub first: u32,
 }
 
 // A trace's turn.
-#[derive(Clone, Copy)]
+#[derive(Clone, Copy, Debug, PartialEq, Eq)]
 pub struct Turn {
     pub scan_type: u8,
     pub set: u8,
@@ -32,12 +32,9 @@ pub struct Turn {
 fn traces_of(b: &[u8], t: u8) -> u32
     ensures { (result ≡ traces_of b.now t) × (result < 16777216) }
 {
-    let sets = pair_at(b, 29);
-    let mut sum: u32 = 0;
-    let mut s = 0;
-    while s < sets {
-        sum += channels(b, t, s) as u32;
-        s += 1;
+    let mut sum = 0;
+    for s in 0..pair_at(b, 29) {
+        sum += u32::from(channels(b, t, s));
     }
     sum
 }
@@ -46,50 +43,42 @@ fn traces_of(b: &[u8], t: u8) -> u32
 pub fn trace_count(b: &[u8]) -> u32
     ensures { result ≡ trace_count b.now }
 {
-    let types = pair_at(b, 28);
-    let mut sum: u32 = 0;
-    let mut t = 0;
-    while t < types {
+    let mut sum = 0;
+    for t in 0..pair_at(b, 28) {
         sum += traces_of(b, t);
-        t += 1;
     }
     sum
+}
+
+// Of n scan types or sets of sizes(0), sizes(1), .. traces the one that trace k is in; past the last n.
+fn holding<F: Fn(u8) -> u32>(n: u8, k: u32, sizes: F) -> Holder
+    requires { F.IsAlwaysCallable sizes }
+    ensures found { (f : ℕ → ℕ) → Answers (F.post sizes) f → result ≡ holder_of f k n }
+    ensures bounds { (result.first ≤ k) × (result.number ≤ n) }
+{
+    let mut first: u32 = 0;
+    for number in 0..n {
+        let size = sizes(number);
+        if k - first < size {
+            return Holder { number, first };
+        }
+        first += size;
+    }
+    Holder { number: n, first }
 }
 
 // The scan type of trace i.
 fn type_at(b: &[u8], i: u32) -> Holder
     ensures { (result ≡ type_at b.now i) × (result.first ≤ i) × (result.number < 166) }
 {
-    let types = pair_at(b, 28);
-    let mut first: u32 = 0;
-    let mut t = 0;
-    while t < types {
-        let n = traces_of(b, t);
-        if i - first < n {
-            return Holder { number: t, first };
-        }
-        first += n;
-        t += 1;
-    }
-    Holder { number: t, first }
+    holding(pair_at(b, 28), i, |t| traces_of(b, t))
 }
 
 // The set of trace k of scan type t.
 fn set_in(b: &[u8], t: u8, k: u32) -> Holder
     ensures { (result ≡ set_in b.now t k) × (result.first ≤ k) × (result.number < 166) }
 {
-    let sets = pair_at(b, 29);
-    let mut first: u32 = 0;
-    let mut s = 0;
-    while s < sets {
-        let n = channels(b, t, s) as u32;
-        if k - first < n {
-            return Holder { number: s, first };
-        }
-        first += n;
-        s += 1;
-    }
-    Holder { number: s, first }
+    holding(pair_at(b, 29), k, |s| u32::from(channels(b, t, s)))
 }
 
 // The turn of trace k of scan type t.
@@ -127,23 +116,20 @@ pub fn skew_at(b: &[u8], u: Turn) -> u8
     if pair_at(b, 30) == 0 {
         return 0;
     }
-    let fields = general::fields_before(b, u.scan_type) + pair_at(b, 29) as u32;
+    let fields = general::fields_before(b, u.scan_type) + u32::from(pair_at(b, 29));
     let front = 32 * (1 + fields) as usize;
     let i = front + (samples_before(b, u.scan_type, u.set) + u.channel as usize);
-    if i < b.len() { b[i] } else { 0 }
+    b.get(i).copied().unwrap_or(0)
 }
 
 // Whose a sample of a trace is: scan type, set and channel from 1, scan and subscan from 0.
-#[derive(Clone, Copy)]
-pub enum Placed {
-    Of {
-        scan_type: u32,
-        set: u32,
-        channel: u32,
-        scan: u32,
-        subscan: u32,
-    },
-    Refused(Refusal),
+#[derive(Clone, Copy, Debug, Default, PartialEq, Eq)]
+pub struct Placed {
+    pub scan_type: u32,
+    pub set: u32,
+    pub channel: u32,
+    pub scan: u32,
+    pub subscan: u32,
 }
 
 // Sample i of trace j, which is not the last that 32 bits can count.
@@ -152,10 +138,10 @@ fn sample_of(b: &[u8], j: u32, i: u32) -> Placed
     ensures { result ≡ sample_of b.now (turn_at b.now j) i }
 {
     let u = turn_at(b, j);
-    let n = subscans_at(b, u) as u32;
-    Placed::Of {
-        scan_type: u.scan_type as u32 + 1,
-        set: u.set as u32 + 1,
+    let n = u32::from(subscans_at(b, u));
+    Placed {
+        scan_type: u32::from(u.scan_type) + 1,
+        set: u32::from(u.set) + 1,
         channel: u.channel + 1,
         scan: i / n,
         subscan: i % n,
@@ -163,18 +149,12 @@ fn sample_of(b: &[u8], j: u32, i: u32) -> Placed
 }
 
 // Whose sample i of trace j is. The sample may be any: how many a trace has, its block tells.
-pub fn place(block: &[u8], trace: u32, sample: u32) -> Placed
+pub fn place(block: &[u8], trace: u32, sample: u32) -> Result<Placed, Refusal>
     ensures { result ≡ placed_at block.now trace sample }
 {
-    let f = header_fault(block);
-    if let Fault::At(r) = f {
-        return Placed::Refused(r);
+    header_fault(block)?;
+    if word_at(block, 3) < 0x8000 || trace_count(block) <= trace {
+        return Err(Refusal::Index);
     }
-    if word_at(block, 3) < 0x8000 {
-        return Placed::Refused(Refusal::Index);
-    }
-    if trace_count(block) <= trace {
-        return Placed::Refused(Refusal::Index);
-    }
-    sample_of(block, trace, sample)
+    Ok(sample_of(block, trace, sample))
 }

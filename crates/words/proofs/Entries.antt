@@ -1,5 +1,6 @@
 -- What the two tables say: entry b of a code's table is the word of byte b; and the answers to the words of the two codes.
 -- Assumes nothing.
+use Rattle.std.specs.Prelude.{Err, Ok, Some}
 use Prim.Native.Nat.{ℕ, zero, suc, ◌/◌, ◌%◌, ◌≤◌, ◌<◌}
 use mathlib.Core.Path.{◌≡◌, refl, subst, sym, ◌∙◌, ap}
 use mathlib.Core.Bool.{Bool, true, false, and-false}
@@ -17,10 +18,8 @@ use Rattle.basis.specs.Upto.{upto, list_upto}
 use Rattle.refusals.specs.declared.Refusal.TheVariants.{Index}
 use Rattle.codes.specs.declared.Kind.TheVariants.{OnesComplement, SignMagnitude}
 use Rattle.codes.specs.declared.Row.{Row}
-use Rattle.codes.specs.declared.Found.TheVariants.{At}
 use Rattle.codes.specs.Codes.{table, find_in, row_of, row}
 use Rattle.words.specs.declared.Value.{Value}
-use Rattle.words.specs.declared.Word.TheVariants.{Sample, Refused}
 use Rattle.words.specs.Words.{signed_fraction, power_of, last_bit, negative_zero, all_ones, off_rule, sample_in, word_in, word_of, valued, value_of}
 use Rattle.words.specs.Tables.{OneByte, is22, is42, byte_code, signed_of, entry_of, table_of, tabled}
 use Rattle.words.proofs.Parts.{taken, not_taken}
@@ -73,7 +72,7 @@ says b (is42 e) h = rw e (same (λ (k : ℕ). entered 0x0042 (entry_of 0x0042 k)
 -- the row of a code whose words have one byte
 pub record Narrow (code : ℕ) : Type 0 where
   pub row : Row
-  pub found : row_of code ≡ At row
+  pub found : row_of code ≡ Some row
   pub apart : row.apart ≡ 0
   pub width : row.width ≡ 8
   pub own : byte_code code ≡ code
@@ -85,22 +84,22 @@ narrow (is42 e) = record { row = row 0x0042 8 0 5 4 2 0 SignMagnitude; found = r
 
 module _ {code : ℕ} (n : Narrow code) where
   -- c is not 0
-  pub wide_c : (c word : ℕ) → (c ≡ 0 → ⊥) → word_of code c word ≡ Refused Index
+  pub wide_c : (c word : ℕ) → (c ≡ 0 → ⊥) → word_of code c word ≡ Err Index
   wide_c c word h = not_taken code n.row n.found c word (rw (n.apart, le-ltb c 1 (omega (arith, h))))
 
-  pub wide_word : (c word : ℕ) → 255 < word → word_of code c word ≡ Refused Index
+  pub wide_word : (c word : ℕ) → 255 < word → word_of code c word ≡ Err Index
   wide_word c word h = not_taken code n.row n.found c word (rw (n.apart, n.width, le-ltb word 256 h, and-false))
 
-  in_width : (word : ℕ) → word < 256 → word_of code 0 word ≡ sample_in n.row 0 word
+  in_width : (word : ℕ) → word < 256 → word_of code 0 word ≡ Ok (sample_in n.row 0 word)
   in_width word h = taken code n.row n.found 0 word (rw n.apart (omega arith)) (rw (n.apart, n.width) h)
 
   -- a byte's word, from its value
-  pub as_word : (word : ℕ) {v : Value} → word < 256 → v ≡ value_of code 0 word → Sample v.m v.x v.off ≡ word_of code 0 word
-  unfolding value_of sample_in
+  pub as_word : (word : ℕ) {v : Value} → word < 256 → v ≡ value_of code 0 word → Ok v ≡ word_of code 0 word
+  unfolding value_of
   as_word word h e = rw (e, in_width word h)
 
   -- no byte has it
-  no_value : (b : ℕ) → 256 ≤ b → value_of code 0 b ≡ valued (Refused Index)
+  no_value : (b : ℕ) → 256 ≤ b → value_of code 0 b ≡ valued (Err Index)
   unfolding value_of
   no_value b h = ap valued (wide_word 0 b (omega arith))
 

@@ -4,3 +4,4 @@ pub mod Parts
 pub mod Entries
 pub mod OffBytes
 pub mod Stems
+pub mod Tape

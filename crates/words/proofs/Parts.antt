@@ -1,5 +1,6 @@
 -- A sample from the parts of its word, and which words of a row are read.
 -- Assumes nothing.
+use Rattle.std.specs.Prelude.{Err, Ok, Some}
 use Prim.Native.Nat.{ℕ, zero, suc, ◌+◌, ◌-◌, ◌^◌, ◌<◌}
 use mathlib.Core.Path.{◌≡◌, sym, ◌∙◌, ap}
 use mathlib.Core.Bool.{Bool, false, ◌&&◌, ◌||◌}
@@ -12,11 +13,9 @@ use Rattle.basis.specs.Choice.{pick}
 use Rattle.basis.specs.Fields.{field, joined}
 use Rattle.basis.proofs.FieldLaws.{rejoined}
 use Rattle.codes.specs.declared.Row.{Row}
-use Rattle.codes.specs.declared.Found.TheVariants.{At}
 use Rattle.codes.specs.Codes.{row_of}
 use Rattle.refusals.specs.declared.Refusal.TheVariants.{Index}
 use Rattle.words.specs.declared.Value.{Value}
-use Rattle.words.specs.declared.Word.TheVariants.{Sample, Refused}
 use Rattle.words.specs.Words.{signed_fraction, power_of, off_rule, sample_in, word_in, word_of, valued, value_of, sign_in, fraction_in, last_in, spare_of}
 
 pub from_parts : (r : Row) (c word : ℕ) {s e q last : ℕ} {m x : ℤ} {off : Bool}
@@ -27,7 +26,7 @@ pub from_parts : (r : Row) (c word : ℕ) {s e q last : ℕ} {m x : ℤ} {off : 
     → m ≡ signed_fraction r.kind r.fraction s q
     → x ≡ power_of r.base r.bias r.fraction (c + e)
     → off ≡ off_rule r.kind r.fraction r.exponent last s (c + e) q
-    → Sample m x off ≡ sample_in r c word
+    → record { m = m; x = x; off = off } ≡ sample_in r c word
 unfolding sample_in
 from_parts r c word hs he hq hl hm hx ho = rw (hm, hx, ho, hs, he, hq, hl)
 
@@ -59,21 +58,21 @@ any_bit ew n k zero (suc word) {s = s} {e = e} {q = q} {last = last} ha hw h hs 
     rw (lt-ltb 0 (suc word) (omega arith), lt-ltb 0 (last + (s + (0 + e) + q)) (omega (arith, g)))
 
 -- a code's word is its row's, and one that is no wider than the code's is read
-module _ (code : ℕ) (r : Row) (e : row_of code ≡ At r) where
+module _ (code : ℕ) (r : Row) (e : row_of code ≡ Some r) where
   word_row : (c word : ℕ) → word_of code c word ≡ word_in r c word
   unfolding word_of
   word_row c word = rw e
 
-  pub taken : (c word : ℕ) → c < 2 ^ r.apart → word < 2 ^ (r.width - r.apart) → word_of code c word ≡ sample_in r c word
+  pub taken : (c word : ℕ) → c < 2 ^ r.apart → word < 2 ^ (r.width - r.apart) → word_of code c word ≡ Ok (sample_in r c word)
   unfolding word_in pick
   taken c word hc hw = word_row c word ∙ rw (lt-ltb c (2 ^ r.apart) hc, lt-ltb word (2 ^ (r.width - r.apart)) hw)
 
   -- and one that is wider is not
-  pub not_taken : (c word : ℕ) → (ltb c (2 ^ r.apart) && ltb word (2 ^ (r.width - r.apart))) ≡ false → word_of code c word ≡ Refused Index
+  pub not_taken : (c word : ℕ) → (ltb c (2 ^ r.apart) && ltb word (2 ^ (r.width - r.apart))) ≡ false → word_of code c word ≡ Err Index
   unfolding word_in pick
   not_taken c word h = word_row c word ∙ rw h
 
   pub value_of_lem : (c word : ℕ) {v : Value} → c < 2 ^ r.apart → word < 2 ^ (r.width - r.apart)
-      → v ≡ valued (sample_in r c word) → v ≡ value_of code c word
+      → v ≡ sample_in r c word → v ≡ value_of code c word
   unfolding value_of
   value_of_lem c word hc hw h = h ∙ ap valued (sym (taken c word hc hw))

@@ -1,18 +1,15 @@
 -- "Sample words": what a word of each format code stands for, by the columns of the code's row, and which words are off rule.
 -- Assumes nothing.
-use Rattle.std.specs.Prelude.{ℕ, ◌+◌, ◌-◌, ◌*◌, ◌^◌, Bool, false, ◌&&◌, ◌||◌, eqb, ltb, ℤ, pos, neg_ℤ, ◌-ℤ◌}
+use Rattle.std.specs.Prelude.{ℕ, ◌+◌, ◌-◌, ◌*◌, ◌^◌, Bool, false, ◌&&◌, ◌||◌, eqb, ltb, ℤ, pos, neg_ℤ, ◌-ℤ◌, Err, None, Ok, Option, Result, Some}
 use Rattle.basis.specs.Choice.{pick}
 use Rattle.basis.specs.Fields.{field}
 use Rattle.refusals.specs.declared.Refusal.TheVariants.{Format, Index}
 use Rattle.codes.specs.declared.Kind.{Kind}
 use Rattle.codes.specs.declared.Kind.TheVariants.{OnesComplement, SignMagnitude, Justified}
 use Rattle.codes.specs.declared.Row.{Row}
-use Rattle.codes.specs.declared.Found.{Found}
-use Rattle.codes.specs.declared.Found.TheVariants.{At, Nothing}
 use Rattle.codes.specs.Codes.{row_of}
 use Rattle.words.specs.declared.Value.{Value}
-use Rattle.words.specs.declared.Word.{Word}
-use Rattle.words.specs.declared.Word.TheVariants.{Sample, Refused}
+use Rattle.refusals.specs.declared.Refusal.{Refusal}
 
 -- Letters: s is S, the sign; q is Q; e is the page's c, the whole exponent, and c only what of it stands apart from the word; n and b are the bits of q and e.
 
@@ -81,30 +78,32 @@ unfoldable pub off_rule : Kind → ℕ → ℕ → ℕ → ℕ → ℕ → ℕ �
 off_rule kind n b last s e q = last_bit last || kind_off kind n b s e q
 
 -- "Each sample is (M, X)", with its off-rule mark: one definition over a row's columns
-unfoldable pub sample_in : Row → ℕ → ℕ → Word
+unfoldable pub sample_in : Row → ℕ → ℕ → Value
 sample_in r c word =
-    Sample (signed_fraction r.kind r.fraction (sign_in r word) (fraction_in r word))
-    (power_of r.base r.bias r.fraction (exponent_in r c word))
-    (off_rule r.kind r.fraction r.exponent (last_in r word) (sign_in r word) (exponent_in r c word) (fraction_in r word))
+    record {
+      m = signed_fraction r.kind r.fraction (sign_in r word) (fraction_in r word);
+      x = power_of r.base r.bias r.fraction (exponent_in r c word);
+      off = off_rule r.kind r.fraction r.exponent (last_in r word) (sign_in r word) (exponent_in r c word) (fraction_in r word);
+    }
 
 -- a word asked about: INDEX for "a word or c asked about wider than its code's"
-unfoldable pub word_in : Row → ℕ → ℕ → Word
+unfoldable pub word_in : Row → ℕ → ℕ → Result Value Refusal
 word_in r c word =
-    pick (ltb c (2 ^ r.apart) && ltb word (2 ^ (r.width - r.apart))) (sample_in r c word) (Refused Index)
+    pick (ltb c (2 ^ r.apart) && ltb word (2 ^ (r.width - r.apart))) (Ok (sample_in r c word)) (Err Index)
 
 -- FORMAT where the code is not among the twelve
-abbrev pub word_found : Found → ℕ → ℕ → Word
-word_found Nothing c word = Refused Format
-word_found (At r) c word = word_in r c word
+abbrev pub word_found : Option Row → ℕ → ℕ → Result Value Refusal
+word_found None c word = Err Format
+word_found (Some r) c word = word_in r c word
 
 -- the answer to a word of a code, with the exponent c that stands apart from it (0015; elsewhere 0)
-unfoldable pub word_of : ℕ → ℕ → ℕ → Word
+unfoldable pub word_of : ℕ → ℕ → ℕ → Result Value Refusal
 word_of code c word = word_found (row_of code) c word
 
 -- a sample's numbers; 0 x 2^0, not off rule, where a word is refused
-abbrev pub valued : Word → Value
-valued (Sample m x off) = record { m = m; x = x; off = off }
-valued (Refused r) = record { m = pos 0; x = pos 0; off = false }
+abbrev pub valued : Result Value Refusal → Value
+valued (Ok v) = v
+valued (Err r) = record { m = pos 0; x = pos 0; off = false }
 
 -- the sample of a word that its code has
 unfoldable pub value_of : ℕ → ℕ → ℕ → Value

@@ -3,27 +3,21 @@
 
 pub mod tables;
 
-ghost use Rattle.std.specs.Prelude.{◌≡◌, ◌<◌, ◌≤◌, ◌^◌, ◌*◌, ◌+◌, ◌-◌, ◌/◌, ◌%◌, ◌&&◌, ◌||◌, eqb, ltb, pos, neg_ℤ};
+ghost use Rattle.std.specs.Prelude.{ℕ, ◌≡◌, ◌<◌, ◌≤◌, ◌^◌, ◌*◌, ◌+◌, ◌-◌, ◌/◌, ◌%◌, ◌&&◌, ◌||◌, eqb, ltb, pos, neg_ℤ, Ok, Some};
+ghost use Rattle.std.proofs.Common.{rules};
 ghost use Rattle.basis.specs.Choice.{pick};
+ghost use Rattle.basis.specs.Digits.{written, byte_in};
 ghost use Rattle.basis.specs.Fields.{field};
-ghost use Rattle.codes.specs.Codes.{SoundRow, row, row_of};
-ghost use Rattle.codes.specs.declared.Found.TheVariants.{At};
+ghost use Rattle.codes.specs.Codes.{SoundRow, row_of};
 ghost use Rattle.codes.specs.declared.Kind.TheVariants.{OnesComplement, SignMagnitude, Justified};
-ghost use Rattle.words.specs.Tables.{OneByte, table_of};
+ghost use Rattle.words.specs.Tables.{OneByte};
 ghost use Rattle.words.specs.Words.{signed_fraction, power_of, last_bit, negative_zero, all_ones, off_rule, sample_in, word_in, word_of, valued, value_of};
 
-use codes::{Found, Kind, Row};
+use codes::{Kind, Row};
 use refusals::Refusal;
 
-// What a word is: a sample M x 2^X and whether it is off rule; or no word of the code.
-#[derive(Clone, Copy)]
-pub enum Word {
-    Sample { m: i32, x: i32, off: bool },
-    Refused(Refusal),
-}
-
-// The same of a word that its code has.
-#[derive(Clone, Copy)]
+// A sample M x 2^X, and whether it is off rule.
+#[derive(Clone, Copy, Default)]
 pub struct Value {
     pub m: i32,
     pub x: i32,
@@ -69,8 +63,7 @@ fn signed_fraction(kind: Kind, n: u32, s: u32, q: u32) -> i32
 {
     match kind {
         Kind::OnesComplement => with_sign(s, q, ones(n) - q),
-        Kind::SignMagnitude => with_sign(s, q, q),
-        Kind::Justified => with_sign(s, q, q),
+        Kind::SignMagnitude | Kind::Justified => with_sign(s, q, q),
     }
 }
 
@@ -127,31 +120,26 @@ fn off_rule(kind: Kind, n: u32, b: u32, some: bool, last: u32, s: u32, e: u32, q
     }
 }
 
-// A word's sample, by the columns of a row; c is the exponent apart from it.
-// They come one by one, so that a call with a known row is worked out where it stands.
-fn sample(
-    kind: Kind,
-    width: u32,
-    apart: u32,
-    n: u32,
-    base: u32,
-    b: u32,
-    bias: u32,
-    c: u32,
-    word: u32,
-) -> Word
-    requires { (1 + b + n ≤ width) × (width ≤ 32) × (apart ≤ b) × (apart ≤ 4) × (4 ≤ n) × (n ≤ 23) × (b ≤ 7) × (base ≤ 4) × (bias ≤ 64) × (c < 2 ^ apart) × (word < 2 ^ (width - apart)) }
-    ensures { result ≡ sample_in (row 0 width apart n base b bias kind) c word }
+// A word's sample, by its row; c is the exponent apart from it. Put where it is called, with a known row it is worked out of the row's constants.
+#[inline(always)]
+fn sample(r: Row, c: u32, word: u32) -> Value
+    requires sound { SoundRow r }
+    requires c_bits { c < 2 ^ r.apart }
+    requires word_bits { word < 2 ^ (r.width - r.apart) }
+    ensures { result ≡ sample_in r c word }
 {
-    let spare = width - 1 - b - n;
-    let s = bits(word, width - apart - 1, 1);
-    let e = c + bits(word, spare + n, b - apart);
+    let n = r.fraction;
+    let spare = r.width - 1 - r.exponent - n;
+    let s = bits(word, r.width - r.apart - 1, 1);
+    let e = c + bits(word, spare + n, r.exponent - r.apart);
     let q = bits(word, spare, n);
-    let m = signed_fraction(kind, n, s, q);
-    let x = power(base, bias, n, e);
     let some = (0 < c) | (0 < word);
-    let off = off_rule(kind, n, b, some, bits(word, 0, spare), s, e, q);
-    Word::Sample { m, x, off }
+    let last = bits(word, 0, spare);
+    Value {
+        m: signed_fraction(r.kind, n, s, q),
+        x: power(r.base, r.bias, n, e),
+        off: off_rule(r.kind, n, r.exponent, some, last, s, e, q),
+    }
 }
 
 // Whether a number has at most `w` bits.
@@ -166,119 +154,115 @@ fn has_bits(word: u32, w: u32) -> bool
 }
 
 // The answer to a word of a row: INDEX, or its sample.
-fn of_row(row: Row, c: u32, word: u32) -> Word
+fn of_row(row: Row, c: u32, word: u32) -> Result<Value, Refusal>
     requires { SoundRow row }
     ensures { result ≡ word_in row c word }
 {
-    if has_bits(c, row.apart) {
-        if has_bits(word, row.width - row.apart) {
-            let kind = row.kind;
-            return sample(
-                kind,
-                row.width,
-                row.apart,
-                row.fraction,
-                row.base,
-                row.exponent,
-                row.bias,
-                c,
-                word,
-            );
-        }
+    if has_bits(c, row.apart) && has_bits(word, row.width - row.apart) {
+        return Ok(sample(row, c, word));
     }
-    Word::Refused(Refusal::Index)
+    Err(Refusal::Index)
 }
 
 // The answer to a word of a code whose words have one byte, from the code's table.
-fn by_table(table: &[u64; 256], code: u16, c: u32, word: u32) -> Word
-    requires { (table.now ≡ table_of code) × (OneByte code) }
+fn by_table(code: u16, c: u32, word: u32) -> Result<Value, Refusal>
+    requires { OneByte code }
     ensures { result ≡ word_of code c word }
 {
-    if c != 0 {
-        return Word::Refused(Refusal::Index);
+    if c != 0 || 255 < word {
+        return Err(Refusal::Index);
     }
-    if 255 < word {
-        return Word::Refused(Refusal::Index);
-    }
-    let v = tables::value(table, code, word as u8);
-    Word::Sample {
-        m: v.m,
-        x: v.x,
-        off: v.off,
-    }
+    Ok(tables::value(tables::lent(code), code, word as u8))
 }
 
-// The sample that a word of a format code is, with the exponent c that stands apart from it (0015 and 8015; elsewhere 0); or FORMAT, INDEX.
-pub fn read_word(code: u16, c: u32, word: u32) -> Word
+// The sample that a word of a format code is, with the exponent c that stands apart from it (0015 and 8015; elsewhere 0); or FORMAT, INDEX. Code, c and word come one by one, as in segd_read_word.
+// 0022 and 0042, and the same as 80xx, have tables: a column of the rows for it would be no plainer.
+pub fn read_word(code: u16, c: u32, word: u32) -> Result<Value, Refusal>
     ensures { result ≡ word_of code c word }
 {
     let stem = code % 0x8000;
-    if stem == 0x0022 {
-        let table = tables::lent_22();
-        return by_table(table, stem, c, word);
+    if stem == 0x0022 || stem == 0x0042 {
+        return by_table(stem, c, word);
     }
-    if stem == 0x0042 {
-        let table = tables::lent_42();
-        return by_table(table, stem, c, word);
-    }
-    let found = codes::find(code);
-    match found {
-        Found::At(row) => of_row(row, c, word),
-        Found::Nothing => Word::Refused(Refusal::Format),
-    }
+    let row = codes::find(code).ok_or(Refusal::Format)?;
+    of_row(row, c, word)
 }
 
-// A sample's numbers; 0 x 2^0, not off rule, where the word is refused.
-fn as_value(w: Word) -> Value
-    ensures { result ≡ valued w }
-{
-    match w {
-        Word::Sample { m, x, off } => Value { m, x, off },
-        Word::Refused(_) => Value {
-            m: 0,
-            x: 0,
-            off: false,
-        },
-    }
-}
-
-// The same as numbers alone.
+// The same as numbers alone: 0 x 2^0, not off rule, where the word is refused.
 pub fn read(code: u16, c: u32, word: u32) -> Value
     ensures { result ≡ value_of code c word }
 {
-    as_value(read_word(code, c, word))
+    read_word(code, c, word).unwrap_or_default()
 }
 
-// A word of a code, by its row, where no exponent stands apart from it.
+// A word of a code, by its row, where no exponent stands apart from it. Put where it is called, it is worked out of the row's constants.
+#[inline(always)]
 fn by_row(r: Row, word: u32) -> Value
-    requires { (row_of r.code ≡ At r) × (word < 2 ^ (r.width - r.apart)) }
+    requires { (row_of r.code ≡ Some r) × (word < 2 ^ (r.width - r.apart)) }
     ensures { result ≡ value_of r.code 0 word }
 {
-    let kind = r.kind;
-    as_value(sample(
-        kind, r.width, r.apart, r.fraction, r.base, r.exponent, r.bias, 0, word,
-    ))
+    sample(r, 0, word)
 }
 
-// A word of 0024.
-pub fn value24(word: u16) -> Value
-    ensures { result ≡ value_of 0x0024 0 word }
-{
-    by_row(codes::ROW_24, word as u32)
+// A code whose words stand alone, of N bytes each.
+pub trait Plain<const N: usize> {
+    const CODE: u16;
+
+    ghost CODE: { ℕ };
+
+    // A word, as its bytes stand on tape.
+    fn value(word: [u8; N]) -> Value
+        ensures { result ≡ value_of CODE 0 (written 256 (byte_in word.entry) 0 N) };
+
+    ghost short: { (0 < N) × (N ≤ 4) };
 }
 
-// A word of 0044.
-pub fn value44(word: u16) -> Value
-    ensures { result ≡ value_of 0x0044 0 word }
-{
-    by_row(codes::ROW_44, word as u32)
+pub struct Code24;
+
+impl Plain<2> for Code24 {
+    const CODE: u16 = 0x0024;
+
+    ghost CODE = { 0x0024 };
+
+    fn value(word: [u8; 2]) -> Value
+        ensures { result ≡ value_of 0x0024 0 (written 256 (byte_in word) 0 2) }
+    {
+        by_row(codes::ROW_24, u32::from(u16::from_be_bytes(word)))
+    }
+
+    ghost short = { Prim.search rules };
 }
 
-// A word of 0048.
-pub fn value48(word: u32) -> Value
-    ensures { result ≡ value_of 0x0048 0 word }
-{
-    by_row(codes::ROW_48, word)
+pub struct Code44;
+
+impl Plain<2> for Code44 {
+    const CODE: u16 = 0x0044;
+
+    ghost CODE = { 0x0044 };
+
+    fn value(word: [u8; 2]) -> Value
+        ensures { result ≡ value_of 0x0044 0 (written 256 (byte_in word) 0 2) }
+    {
+        by_row(codes::ROW_44, u32::from(u16::from_be_bytes(word)))
+    }
+
+    ghost short = { Prim.search rules };
+}
+
+pub struct Code48;
+
+impl Plain<4> for Code48 {
+    const CODE: u16 = 0x0048;
+
+    ghost CODE = { 0x0048 };
+
+    fn value(word: [u8; 4]) -> Value
+        ensures { result ≡ value_of 0x0048 0 (written 256 (byte_in word) 0 4) }
+    {
+        by_row(codes::ROW_48, u32::from_be_bytes(word))
+    }
+
+    ghost short = { Prim.search rules };
 }
 
 // One more than the greatest Q of an 0015 word, by its row.
@@ -304,7 +288,7 @@ pub fn value15(c: u32, word: u16) -> Value
     ensures { result ≡ value_of 0x0015 (c % 16) word }
 {
     let r = codes::ROW_15;
-    let w = word as u32;
+    let w = u32::from(word);
     let t = w / 2;
     Value {
         m: fraction15(t),

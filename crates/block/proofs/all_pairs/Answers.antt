@@ -1,25 +1,16 @@
 -- `block::all_pairs` meets its contract.
 -- Assumes nothing.
-use Prim.Native.Nat.{◌+◌, ◌-◌}
-use mathlib.Core.Path.{◌≡◌, refl, sym}
-use native.Mathlib.Omega.{arith}
-use borrow.Author.Rules.{rules}
-use Rattle.basis.proofs.Uptos.{upto_more, all_fails}
-use Rattle.basis.specs.Upto.{upto}
-use Rattle.block.specs.Bytes.{pairs}
+use Rattle.std.proofs.Common.{ℕ, ◌+◌, ◌-◌, ◌∙◌, refl, rules, tests}
+use Rattle.std.proofs.lemmas.Iterator.{YieldsList-from_range}
+use Rattle.std.proofs.lemmas.Iterator.Search.{all_from_yields_List}
+use Rattle.basis.proofs.Uptos.{all_range}
+use Rattle.block.specs.Bytes.{is_pair, byte, pairs}
 use Rattle.block.proofs.all_pairs.Goals as goal
-
-pub loop-i-init : goal.loop-i-init
-unfolding upto
-loop-i-init c = (refl, search rules)
-
-pub returns-then-not-is_pair : goal.returns-then-not-is_pair
-unfolding pairs
-returns-then-not-is_pair c = sym (all_fails _ c.loop-i.i _ (omega arith) (rw (← c.byte_at.ensures, ← c.is_pair.ensures) c.if-not-is_pair.true))
-
-pub loop-i-preserved : goal.loop-i-preserved
-loop-i-preserved c = (rw (upto_more, c.loop-i.invariant.0, ← c.byte_at.ensures, ← c.is_pair.ensures) c.if-not-is_pair.false, search rules)
 
 pub returns : goal.returns
 unfolding pairs
-returns c = let e : c.args.m + 1 - c.args.n ≡ c.loop-i.i = omega arith in cc
+returns c =
+    let a = c.args in
+    let p = λ (i : ℕ). is_pair (byte a.b.now i) in
+    all_from_yields_List p _ _ _ c.all.ensures.ran (YieldsList-from_range a.n (a.m + 1) _ (cc) refl) (λ x b q k. search (rules, tests))
+    ∙ all_range p a.n (a.m + 1 - a.n)

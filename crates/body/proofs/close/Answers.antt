@@ -16,4 +16,4 @@ returns-then-fit c = search (tests, sym c.fit.ensures ∙ c.if-fit.true, c.finis
 
 pub returns-else-fit : goal.returns-else-fit
 unfolding close pick
-returns-else-fit c = search (tests, sym c.fit.ensures ∙ c.if-fit.false, c.refused.ensures)
+returns-else-fit c = search (tests, sym c.fit.ensures ∙ c.if-fit.false)

@@ -1,15 +1,12 @@
 -- `codes::bits` meets its contract.
 -- Assumes nothing.
-use Rattle.codes.proofs.Rows.{fit}
-use mathlib.Core.Path.{sym}
-use Rattle.codes.specs.Codes.{bits_of}
-use native.Mathlib.Omega.{arith}
+use Rattle.std.proofs.Common.{◌≡◌, rules}
+use Rattle.codes.specs.Codes.{row_of, of_row, bits_of}
+use Rattle.codes.proofs.Rows.{bits_few}
 use Rattle.codes.proofs.bits.Goals as goal
 
-pub returns-in-At : goal.returns-in-At
+pub returns : goal.returns
 unfolding bits_of
-returns-in-At c = let e = sym c.in-At.ensures in (rw e, (fit _ _ e).narrow)
-
-pub returns-in-Nothing : goal.returns-in-Nothing
-unfolding bits_of
-returns-in-Nothing c = (rw (sym c.in-Nothing.ensures), omega arith)
+returns c =
+    let e : c.map_or.result ≡ of_row (λ r. r.width) (row_of c.args.code) = search rules in
+    (e, rw e (bits_few c.args.code))

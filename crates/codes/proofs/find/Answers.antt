@@ -1,29 +1,16 @@
 -- `codes::find` meets its contract.
 -- Assumes nothing.
-use mathlib.Core.Path.{◌≡◌, refl, sym, ◌∙◌}
-use native.Mathlib.Omega.{arith}
-use Rattle.codes.proofs.Search.{here, next}
-use borrow.Author.Rules.{rules}
+use mathlib.Core.Path.{◌∙◌}
+use lib.Dec.{eqb}
+use Rattle.std.proofs.Common.{rules, tests}
+use Rattle.std.proofs.lemmas.Iterator.{YieldsList-from_slice}
+use Rattle.std.proofs.lemmas.Iterator.Search.{find_from_yields_List}
+use Rattle.codes.specs.declared.Row.{Row}
 use Rattle.codes.specs.Codes.{row_of, find_in, table}
 use Rattle.codes.proofs.find.Goals as goal
-
-pub loop-i-init : goal.loop-i-init
-loop-i-init c = (search rules, refl)
-
-pub returns-then-r-code : goal.returns-then-r-code
-unfolding row_of table
-returns-then-r-code c =
-    let l = c.loop-i in
-    sym (here table _ l.i _ (search rules) c.if-r-code.true) ∙ l.invariant.1
-
-pub loop-i-preserved : goal.loop-i-preserved
-unfolding table
-loop-i-preserved c =
-    let l = c.loop-i in
-    (search rules, sym (next table _ l.i _ (search rules) c.if-r-code.false) ∙ l.invariant.1)
 
 pub returns : goal.returns
 unfolding row_of find_in table
 returns c =
-    let e : c.loop-i.i ≡ 12 = omega arith in
-    rw e at c.loop-i.invariant.1
+    c.copied.ensures
+    ∙ find_from_yields_List (λ (r : Row). eqb r.code c.args.code) _ _ _ c.find.ensures.ran (YieldsList-from_slice table cc) (λ x b q k. search (rules, tests))

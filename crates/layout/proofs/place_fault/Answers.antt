@@ -1,21 +1,14 @@
 -- `layout::place_fault` meets its contract.
 -- Assumes nothing.
-use mathlib.Core.Path.{sym}
-use Rattle.basis.specs.Choice.{pick}
+use borrow.Author.Rules.{rules}
 use Rattle.layout.specs.Indexes.{place_fault}
+use Rattle.layout.proofs.Facts.{refuses}
 use Rattle.layout.proofs.place_fault.Goals as goal
 
-pub returns-in-At : goal.returns-in-At
+pub returns-in_err-h : goal.returns-in_err-h
 unfolding place_fault
-returns-in-At c = rw (← c.header_fault-f.ensures, c.in-At.is)
-
-pub has_sample-requires : goal.has_sample-requires
-has_sample-requires c = sym c.in_default.ensures
-
-pub returns-then-has_sample : goal.returns-then-has_sample
-unfolding place_fault pick
-returns-then-has_sample c = rw (← c.header_fault-f.ensures, c.in_default.is, ← c.has_sample.ensures, c.if-has_sample.true)
+returns-in_err-h c = rw c.in_err-h.ensures.err (search rules)
 
 pub returns : goal.returns
-unfolding place_fault pick
-returns c = rw (← c.header_fault-f.ensures, c.in_default.is, ← c.has_sample.ensures, c.if-has_sample.false)
+unfolding place_fault
+returns c = rw (c.ok_or.ensures.value, c.then_some.ensures, c.has_sample.ensures, ← c.in_ok-h.ensures.ok, c.in_ok-h.h.accepted) (refuses _ _)

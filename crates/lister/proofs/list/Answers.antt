@@ -1,34 +1,23 @@
--- What is written is within the buffer of the lines, since that has room for either half of what a read brought.
+-- What is written is within the buffer of the lines, since that has room for each part of what a read brought.
 -- Assumes nothing.
-use Rattle.std.proofs.Common.{rules, sym, length-take-le}
+use Rattle.std.proofs.Common.{rules, arith, sym, length-take-le, ◌≤◌, length}
 use Rattle.lister.proofs.Room.{walked_within, last_within}
 use Rattle.lister.proofs.list.Goals as goal
 
--- the lines of the first half
+-- the lines of a part
 pub slice_bounds-lines-end : goal.slice_bounds-lines-end
 slice_bounds-lines-end g c =
-    walked_within _ _ _ _ _ (record { size = search rules; half = search rules; some = search rules }) c.walk-first.ensures.0 c.walk-first.ensures.3
+    let short : length c.in-Some-bytes.bytes.now ≤ 32768 = omega (arith, c.in-Some-bytes.ensures.steps.1.1, c.loop-bytes.invariant) in
+    walked_within _ _ _ _ _ (record { size = search rules; half = search (rules, short); some = search (rules, short) }) c.walk-made.ensures.0 c.walk-made.ensures.3
 
 pub slice_bounds-write_all-end : goal.slice_bounds-write_all-end
 slice_bounds-write_all-end g c =
+    let short : length c.in-Some-bytes.bytes.now ≤ 32768 = omega (arith, c.in-Some-bytes.ensures.steps.1.1, c.loop-bytes.invariant) in
     sym
     (length-take-le
     _
     _
-    (walked_within _ _ _ _ _ (record { size = search rules; half = search rules; some = search rules }) c.walk-first.ensures.0 c.walk-first.ensures.3))
-
--- those of the second
-pub slice_bounds-lines-end-in-loop : goal.slice_bounds-lines-end-in-loop
-slice_bounds-lines-end-in-loop g c =
-    walked_within _ _ _ _ _ (record { size = search rules; half = search rules; some = search rules }) c.walk-second.ensures.0 c.walk-second.ensures.3
-
-pub slice_bounds-write_all-end-in-loop : goal.slice_bounds-write_all-end-in-loop
-slice_bounds-write_all-end-in-loop g c =
-    sym
-    (length-take-le
-    _
-    _
-    (walked_within _ _ _ _ _ (record { size = search rules; half = search rules; some = search rules }) c.walk-second.ensures.0 c.walk-second.ensures.3))
+    (walked_within _ _ _ _ _ (record { size = search rules; half = search (rules, short); some = search (rules, short) }) c.walk-made.ensures.0 c.walk-made.ensures.3))
 
 -- the last line
 pub slice_bounds-lines-end-2 : goal.slice_bounds-lines-end-2

@@ -6,7 +6,13 @@ use Rattle.lister.proofs.Walking.{Here}
 use Rattle.lister.proofs.walk.Given as goal
 
 abbrev pub invariant-loop-at : goal.invariant-loop-at
-invariant-loop-at l = (l.at ≤ length l.bytes) × (length l.header ≡ length l.initial.header) × (length l.numbers ≡ length l.initial.numbers) × (length l.lines ≡ length l.initial.lines) × Here (walked l.initial.progress l.bytes l.initial.header l.initial.numbers) l.bytes l.header l.numbers l.initial.lines l.lines l.progress l.at l.end
+invariant-loop-at l = record {
+  within : l.at ≤ length l.bytes;
+  same_header : l.run.header.ghost_name ≡ l.initial.run.header.ghost_name;
+  same_numbers : l.run.numbers.ghost_name ≡ l.initial.run.numbers.ghost_name;
+  same_lines : l.run.lines.ghost_name ≡ l.initial.run.lines.ghost_name;
+  here : Here (walked l.fn.start l.bytes l.fn.header l.fn.numbers) l.bytes l.fn.lines l.run l.at;
+}
 
 abbrev pub decreases-loop-at : goal.decreases-loop-at
 decreases-loop-at l = length l.bytes - l.at

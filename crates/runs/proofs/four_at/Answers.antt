@@ -2,20 +2,15 @@
 -- Assumes nothing.
 use mathlib.Core.Path.{sym, ◌∙◌}
 use native.Mathlib.Omega.{arith}
-use Rattle.runs.proofs.Bytes.{four_there, four_cut}
+use Rattle.runs.proofs.Bytes.{written_four, four_there, four_cut}
+use Rattle.runs.proofs.four_at.Goals.{then-bytes-lt4-via-then-bytes-lt4, then-bytes-lt4-via-else-bytes-lt4+then-bytes-i}
 use Rattle.runs.proofs.four_at.Goals as goal
 
 pub returns-then-bytes-lt4 : goal.returns-then-bytes-lt4
-returns-then-bytes-lt4 c =
-    let a = c.args in
-    sym (four_cut a.bytes.now a.i (omega arith))
-
-pub returns-then-bytes-i : goal.returns-then-bytes-i
-returns-then-bytes-i c =
-    let a = c.args in
-    sym (four_cut a.bytes.now a.i (omega (arith, c.if-bytes-i.true)))
+returns-then-bytes-lt4 c = sym (four_cut c.args.bytes.now c.args.i (elim c.then-bytes-lt4.branch [
+  | then-bytes-lt4-via-then-bytes-lt4 w ↦ omega (arith, w.if-bytes-lt4.true)
+  | then-bytes-lt4-via-else-bytes-lt4+then-bytes-i w ↦ omega (arith, w.if-bytes-i.true)
+]))
 
 pub returns : goal.returns
-returns c =
-    let a = c.args in
-    c.big4.ensures ∙ sym (four_there a.bytes.now a.i (omega (arith, c.if-bytes-lt4.false, c.if-bytes-i.false)))
+returns c = c.from_be_bytes.ensures ∙ omega arith ∙ sym (four_there c.args.bytes.now c.args.i (omega arith) ∙ written_four _ _)

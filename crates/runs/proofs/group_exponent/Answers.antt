@@ -6,4 +6,4 @@ use Rattle.runs.proofs.group_exponent.Goals as goal
 
 pub returns : goal.returns
 unfolding group_exponent exponent_of field
-returns c = rw c.big2.ensures
+returns c = rw (c.from.ensures, c.big2.ensures)

@@ -1,11 +1,13 @@
--- `runs::off_bytes` meets its contract: its loop keeps that the first k bytes are counted.
+-- `runs::off_bytes` meets its contract: its loop keeps that what is counted and what is left make the whole.
 -- Assumes nothing.
-use Prim.Native.Nat.{◌-◌}
-use Rattle.runs.proofs.Apart.{Counted}
+use Rattle.std.proofs.Common.{◌≡◌, ◌+◌}
+use Rattle.std.specs.Slice.Iter.{chunks_rest, chunks_size}
+use Rattle.runs.specs.Runs.{marked}
 use Rattle.runs.proofs.off_bytes.Given as goal
 
-abbrev pub invariant-loop-k : goal.invariant-loop-k
-invariant-loop-k l = Counted l.code l.bytes 0 l.n l.off l.k
-
-abbrev pub decreases-loop-k : goal.decreases-loop-k
-decreases-loop-k l = l.n - l.k
+abbrev pub invariant-loop-few : goal.invariant-loop-few
+invariant-loop-few l =
+    (goal.iterator-loop-few).can_next l.few-iterator
+    × (goal.iterator-loop-few).is_finite l.few-iterator
+    × (chunks_size l.few-iterator ≡ 224)
+    × (l.off + marked l.code (chunks_rest l.few-iterator) ≡ marked l.code l.bytes)

@@ -1,28 +1,27 @@
--- `runs::off_few` meets its contract: its loop keeps that the bytes before i are counted.
+-- `runs::off_few` meets its contract: its loop keeps that the first bytes are counted.
 -- Assumes nothing.
-use native.Mathlib.Omega.{arith}
-use Rattle.runs.proofs.Apart.{counted_none, counted_more, counted_end}
+use Rattle.std.proofs.Common.{◌≡◌, ◌+◌, length, refl, arith}
+use Rattle.basis.specs.Upto.{upto}
+use Rattle.runs.specs.Words.{byte_value}
+use Rattle.runs.specs.Runs.{offs, marked}
+use Rattle.runs.proofs.Done.{offs_low}
+use Rattle.runs.proofs.Apart.{marked_more}
 use Rattle.runs.proofs.off_few.Goals as goal
 
-pub loop-i-init : goal.loop-i-init
-loop-i-init c = counted_none _ _ _ _ c.requires.0
+pub loop-b-init : goal.loop-b-init
+unfolding offs upto
+loop-b-init c = refl
 
-pub bounds-bytes-i : goal.bounds-bytes-i
-bounds-bytes-i c = omega arith
+pub overflow_add-off : goal.overflow_add-off
+overflow_add-off c =
+    let m = marked_more c.args.code c.args.bytes.now _ c.loop-b.invariant c.off.ensures c.from-off.ensures in
+    omega (arith, m, offs_low (byte_value c.args.code c.args.bytes.now) (c.loop-b.b-index + 1))
 
-pub count_byte-off-requires : goal.count_byte-off-requires
-count_byte-off-requires c = omega arith
-
-pub overflow_add-i : goal.overflow_add-i
-overflow_add-i c = omega arith
-
-pub loop-i-smaller : goal.loop-i-smaller
-loop-i-smaller c = omega arith
-
-pub loop-i-preserved : goal.loop-i-preserved
-loop-i-preserved c =
-    let l = c.loop-i in
-    counted_more l.invariant c.loop-i-test.true c.count_byte-off.ensures
+pub loop-b-preserved : goal.loop-b-preserved
+loop-b-preserved c = marked_more c.args.code c.args.bytes.now _ c.loop-b.invariant c.off.ensures c.from-off.ensures
 
 pub returns : goal.returns
-returns c = counted_end c.loop-i.invariant c.loop-i-test.false
+unfolding marked
+returns c =
+    let e : length c.args.bytes.now ≡ c.loop-b.b-index = omega (arith, c.loop-b.auto.b-index-end, c.loop-b-test.false) in
+    rw e c.loop-b.invariant

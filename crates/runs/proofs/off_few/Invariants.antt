@@ -1,11 +1,9 @@
--- `runs::off_few` meets its contract: its loop keeps that the bytes before i are counted.
+-- `runs::off_few` meets its contract: its loop keeps that the first bytes are counted.
 -- Assumes nothing.
-use Prim.Native.Nat.{◌-◌}
-use Rattle.runs.proofs.Apart.{Counted}
+use Rattle.std.proofs.Common.{◌≡◌}
+use Rattle.runs.specs.Words.{byte_value}
+use Rattle.runs.specs.Runs.{offs}
 use Rattle.runs.proofs.off_few.Given as goal
 
-abbrev pub invariant-loop-i : goal.invariant-loop-i
-invariant-loop-i l = Counted l.code l.bytes l.k l.e l.off l.i
-
-abbrev pub decreases-loop-i : goal.decreases-loop-i
-decreases-loop-i l = l.e - l.i
+abbrev pub invariant-loop-b : goal.invariant-loop-b
+invariant-loop-b l = l.off ≡ offs (byte_value l.code l.bytes) l.b-index

@@ -1,42 +1,32 @@
 -- `runs::plain_words` meets its contract: its loop keeps that the first k words are written.
 -- Assumes nothing.
-use Prim.Native.Nat.{ℕ, ◌+◌, ◌≤◌, ◌<◌}
-use native.Mathlib.Nat.{le-div_iff_mul-le}
-use native.Mathlib.Omega.{arith}
-use lib.Dec.{eqb, lit<}
-use lib.ListN.{length}
-use Rattle.basis.proofs.Choices.{pick_both}
-use Rattle.codes.specs.Codes.{row_of, find_in, table, word_bytes_in, word_bytes_of}
-use Rattle.basis.specs.Choice.{pick}
-use Rattle.runs.specs.Words.{words_in, plain_code, plain_bytes, plain_value}
-use Rattle.runs.proofs.Done.{done_none, done_more, loop_ends}
+use Rattle.std.proofs.Common.{◌∙◌, ap, arith}
+use Rattle.words.specs.Words.{value_of}
+use Rattle.runs.specs.Words.{words_in, plain_value}
+use Rattle.runs.proofs.Chunks.{chunk_number}
+use Rattle.runs.proofs.Done.{done_none, done_wrote, took, counted_low, loop_ends}
 use Rattle.runs.proofs.plain_words.Goals as goal
 
--- a word has bytes
-some : (code : ℕ) → 0 < plain_bytes code
-unfolding plain_code pick word_bytes_of word_bytes_in row_of find_in table
-some code = pick_both (λ (x : ℕ). 0 < word_bytes_of x) (eqb code 0x0048) (lit< tt) (pick_both (λ (x : ℕ). 0 < word_bytes_of x) (eqb code 0x0024) (lit< tt) (lit< tt))
-
-pub nonzero_div-bytes : goal.nonzero_div-bytes
-nonzero_div-bytes c = rw c.requires (some c.args.code)
+pub as_chunks-requires : goal.as_chunks-requires
+as_chunks-requires g c = let s = g.met.P.Plain.short in (omega (arith, s.1), s.0)
 
 pub loop-k-init : goal.loop-k-init
 unfolding words_in
-loop-k-init c = done_none _ _ _ _ c.least-n.ensures
+loop-k-init g c = done_none _ _ _ _ (rw (← c.as_chunks.ensures.front_len) c.min-n.ensures)
 
-pub plain_word-v-requires : goal.plain_word-v-requires
-unfolding words_in
-plain_word-v-requires c =
-    let a = c in
-    let l : c.loop-k.k + 1 ≤ words_in a.args.w (length a.args.bytes.now) = omega arith in
-    (le-div_iff_mul-le (some a.args.code)).0 (rw a.requires at l)
+pub overflow_add-off : goal.overflow_add-off
+overflow_add-off g c = omega (arith, c.loop-k.invariant.few, counted_low _ c.put-off.ensures.value)
 
 pub loop-k-preserved : goal.loop-k-preserved
-loop-k-preserved c =
-    let l = c in
-    rw c.put.ensures (done_more l.loop-k.invariant c.loop-k-test.true (rw l.requires c.plain_word-v.ensures) c.count-off.ensures)
+unfolding words_in plain_value
+loop-k-preserved g c =
+    let i = c.loop-k.invariant in
+    let h = rw (took _ c.as_chunks.result.0.now c.min-n.ensures) at c.loop-k-test.true in
+    let n = chunk_number _ _ _ _ _ i.there h c.as_chunks.ensures.front c.word-item.is in
+    done_wrote i h (c.value.ensures ∙ ap (value_of g.P.Plain.CODE 0) n) c.put-off.ensures.value c.put-off.ensures.out_after
 
-pub returns : goal.returns
-returns c =
-    let a = c.args in
-    (let all = loop_ends (words_in a.w) (plain_value (plain_code a.code) a.w) a.bytes.now c.loop-k.invariant c.loop-k-test.false in (record { value = all.0; out_after = all.1 }))
+pub returns-clause-value : goal.returns-clause-value
+returns-clause-value g c = (loop_ends _ _ _ c.loop-k.invariant (rw (took _ c.as_chunks.result.0.now c.min-n.ensures) at c.loop-k-test.false)).0
+
+pub returns-clause-out_after : goal.returns-clause-out_after
+returns-clause-out_after g c = (loop_ends _ _ _ c.loop-k.invariant (rw (took _ c.as_chunks.result.0.now c.min-n.ensures) at c.loop-k-test.false)).1

@@ -7,10 +7,10 @@ use Rattle.basis.proofs.Rules.{tests}
 use native.Mathlib.Omega.{arith}
 use Rattle.scan.proofs.whole.Goals as goal
 
-pub returns-then-w-eq0 : goal.returns-then-w-eq0
+pub returns-then-w-ne0 : goal.returns-then-w-ne0
 unfolding wholeb ◌and◌
-returns-then-w-eq0 c = search (tests, c.if-w-eq0.true)
+returns-then-w-ne0 c = let g : 0 < c.args.w = omega (arith, c.if-w-ne0.true) in search (tests, g)
 
-pub returns : goal.returns
+pub returns-else-w-ne0 : goal.returns-else-w-ne0
 unfolding wholeb ◌and◌
-returns c = let g : 0 < c.args.w = omega (arith, c.if-w-eq0.false) in search (tests, g)
+returns-else-w-ne0 c = search (tests, c.if-w-ne0.false)

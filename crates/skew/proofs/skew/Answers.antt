@@ -9,18 +9,18 @@ use Rattle.skew.proofs.Fits.{skew_asked, asked_fits}
 use Rattle.skew.proofs.skew.Goals as goal
 
 pub overflow_sub-scan_type : goal.overflow_sub-scan_type
-overflow_sub-scan_type c = omega (arith, (skew_asked _ _ _ (sym c.in-Clear.ensures)).least)
+overflow_sub-scan_type c = omega (arith, (skew_asked _ _ _ (sym c.in-Ok.ensures)).least)
 
 pub overflow_cast-scan_type : goal.overflow_cast-scan_type
-overflow_cast-scan_type c = omega (arith, (skew_asked _ _ _ (sym c.in-Clear.ensures)).small)
+overflow_cast-scan_type c = omega (arith, (skew_asked _ _ _ (sym c.in-Ok.ensures)).small)
 
 pub skew_bytes-requires : goal.skew_bytes-requires
-skew_bytes-requires c = asked_fits _ _ _ (skew_asked _ _ _ (sym c.in-Clear.ensures))
+skew_bytes-requires c = asked_fits _ _ _ (skew_asked _ _ _ (sym c.in-Ok.ensures))
 
-pub returns-in-At : goal.returns-in-At
+pub returns-in-Err : goal.returns-in-Err
 unfolding skew_part part
-returns-in-At c = rw (← c.skew_fault-f.ensures, c.in-At.is, zero-add)
+returns-in-Err c = rw (← c.skew_fault.ensures, c.in-Err.is, zero-add)
 
-pub returns-in-Clear : goal.returns-in-Clear
+pub returns-in-Ok : goal.returns-in-Ok
 unfolding skew_part
-returns-in-Clear c = rw (← c.skew_fault-f.ensures, c.in-Clear.is) c.skew_bytes.ensures
+returns-in-Ok c = rw (← c.skew_fault.ensures, c.in-Ok.is) c.skew_bytes.ensures

@@ -1,16 +1,13 @@
 -- `skew::skew_at` meets its contract.
 -- Assumes nothing.
-use mathlib.Core.Path.{sym}
+use borrow.Author.Rules.{rules}
 use Rattle.skew.specs.Skews.{skew_answer}
 use Rattle.skew.proofs.skew_at.Goals as goal
 
-pub skew_byte-requires : goal.skew_byte-requires
-skew_byte-requires c = sym c.in-Clear.ensures
-
-pub returns-in-At : goal.returns-in-At
+pub returns-in_err-skew_byte_fault : goal.returns-in_err-skew_byte_fault
 unfolding skew_answer
-returns-in-At c = rw (← c.skew_byte_fault-f.ensures, c.in-At.is)
+returns-in_err-skew_byte_fault c = rw (← c.skew_byte_fault.ensures, c.in_err-skew_byte_fault.was) (search rules)
 
-pub returns-in-Clear : goal.returns-in-Clear
+pub returns : goal.returns
 unfolding skew_answer
-returns-in-Clear c = rw (← c.skew_byte_fault-f.ensures, c.in-Clear.is, ← c.skew_byte.ensures)
+returns c = rw (← c.skew_byte_fault.ensures, c.in_ok-skew_byte_fault.was, ← c.skew_byte.ensures)

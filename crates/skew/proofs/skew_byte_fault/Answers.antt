@@ -1,17 +1,13 @@
 -- `skew::skew_byte_fault` meets its contract.
 -- Assumes nothing.
-use Rattle.basis.specs.Choice.{pick}
+use borrow.Author.Rules.{rules}
 use Rattle.skew.specs.Skews.{skew_byte_fault}
 use Rattle.skew.proofs.skew_byte_fault.Goals as goal
 
-pub returns-in-At : goal.returns-in-At
+pub returns-in_err-place_fault : goal.returns-in_err-place_fault
 unfolding skew_byte_fault
-returns-in-At c = rw (← c.place_fault-f.ensures, c.in-At.is)
-
-pub returns-then-sheet_holds : goal.returns-then-sheet_holds
-unfolding skew_byte_fault pick
-returns-then-sheet_holds c = rw (← c.place_fault-f.ensures, c.in_default.is, ← c.sheet_holds.ensures, c.if-sheet_holds.true)
+returns-in_err-place_fault c = rw (← c.place_fault.ensures, c.in_err-place_fault.was) (search rules)
 
 pub returns : goal.returns
-unfolding skew_byte_fault pick
-returns c = rw (← c.place_fault-f.ensures, c.in_default.is, ← c.sheet_holds.ensures, c.if-sheet_holds.false)
+unfolding skew_byte_fault
+returns c = rw (← c.place_fault.ensures, c.in_ok-place_fault.was) c.sheet_fault.ensures

@@ -1,22 +1,19 @@
 -- `trace_body::close` meets its contract.
 -- Assumes nothing.
-use Rattle.trace.proofs.Facts.{counted_fit}
-use Rattle.basis.specs.Choice.{pick}
+use borrow.Author.Rules.{rules}
+use mathlib.Core.Path.{sym, ◌∙◌}
+use Rattle.trace.proofs.Admits.{admitted_is}
+use Rattle.trace_body.proofs.Choices.{close_admitted}
 use Rattle.trace_body.specs.Calls.{close}
-use mathlib.Core.Path.{sym}
 use Rattle.trace_body.proofs.close.Goals as goal
 
+pub returns-in_err-admit : goal.returns-in_err-admit
+unfolding close
+returns-in_err-admit c = rw (close_admitted c.args.block.now c.args.s _ (sym c.admit.ensures ∙ c.in_err-admit.was)) (search rules)
+
 pub finish-requires : goal.finish-requires
-finish-requires c = sym c.in-Clear.ensures
+finish-requires c = (admitted_is c.args.block.now c.args.s _ (sym c.admit.ensures ∙ c.in_ok-admit.was)).header
 
-pub returns-in-At : goal.returns-in-At
-unfolding close pick
-returns-in-At c = rw (← c.header_fault-f.ensures, c.in-At.is) c.refused.ensures
-
-pub returns-then-fits : goal.returns-then-fits
-unfolding close pick
-returns-then-fits c = let z = c in let q = counted_fit z.args.block.now z.args.s _ c.trace_count.ensures c.fits.ensures in rw (← c.header_fault-f.ensures, c.in-Clear.is, ← q, c.if-fits.true) c.finish.ensures
-
-pub returns-else-fits : goal.returns-else-fits
-unfolding close pick
-returns-else-fits c = let z = c in let q = counted_fit z.args.block.now z.args.s _ c.trace_count.ensures c.fits.ensures in rw (← c.header_fault-f.ensures, c.in-Clear.is, ← q, c.if-fits.false) c.refused-else-fits.ensures
+pub returns : goal.returns
+unfolding close
+returns c = rw (close_admitted c.args.block.now c.args.s _ (sym c.admit.ensures ∙ c.in_ok-admit.was)) c.finish.ensures

@@ -1,23 +1,19 @@
 -- `turns::trace_count` meets its contract.
 -- Assumes nothing.
 use mathlib.Core.Path.{◌≡◌, refl}
+use native.Mathlib.Omega.{arith}
 use Rattle.basis.specs.Upto.{upto}
 use Rattle.basis.proofs.Uptos.{upto_more}
 use Rattle.turns.specs.Turns.{trace_count}
-use borrow.Author.Rules.{rules}
-use native.Mathlib.Omega.{arith}
 use Rattle.turns.proofs.trace_count.Goals as goal
 
 pub loop-t-init : goal.loop-t-init
 unfolding upto
-loop-t-init c = (refl, search rules, search rules)
-
-pub overflow_add-sum : goal.overflow_add-sum
-overflow_add-sum c = omega arith
+loop-t-init c = (refl, omega arith)
 
 pub loop-t-preserved : goal.loop-t-preserved
-loop-t-preserved c = (rw (upto_more, ← c.loop-t.invariant.0, ← c.traces_of-sum.ensures.0), omega arith, search rules)
+loop-t-preserved c = (rw (upto_more, ← c.loop-t.invariant.0, ← c.traces_of-sum.ensures.0), omega arith)
 
 pub returns : goal.returns
 unfolding trace_count
-returns c = let e : c.pair_at-types.result ≡ c.loop-t.t = omega arith in rw (← c.pair_at-types.ensures.0, e) c.loop-t.invariant.0
+returns c = let e : c.pair_at-t-end.result ≡ c.loop-t.t = omega arith in rw (← c.pair_at-t-end.ensures.0, e) c.loop-t.invariant.0

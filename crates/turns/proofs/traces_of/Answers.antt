@@ -1,23 +1,19 @@
 -- `turns::traces_of` meets its contract.
 -- Assumes nothing.
 use mathlib.Core.Path.{◌≡◌, refl}
+use native.Mathlib.Omega.{arith}
 use Rattle.basis.specs.Upto.{upto}
 use Rattle.basis.proofs.Uptos.{upto_more}
 use Rattle.turns.specs.Turns.{traces_of}
-use borrow.Author.Rules.{rules}
-use native.Mathlib.Omega.{arith}
 use Rattle.turns.proofs.traces_of.Goals as goal
 
 pub loop-s-init : goal.loop-s-init
 unfolding upto
-loop-s-init c = (refl, search rules, search rules)
-
-pub overflow_add-sum : goal.overflow_add-sum
-overflow_add-sum c = omega arith
+loop-s-init c = (refl, omega arith)
 
 pub loop-s-preserved : goal.loop-s-preserved
-loop-s-preserved c = (rw (upto_more, ← c.loop-s.invariant.0, ← c.channels.ensures), omega arith, search rules)
+loop-s-preserved c = (rw (upto_more, ← c.loop-s.invariant.0, ← c.channels.ensures, ← c.from-sum.ensures), omega arith)
 
 pub returns : goal.returns
 unfolding traces_of
-returns c = let e : c.pair_at-sets.result ≡ c.loop-s.s = omega arith in (rw (← c.pair_at-sets.ensures.0, e) c.loop-s.invariant.0, omega arith)
+returns c = let e : c.pair_at-s-end.result ≡ c.loop-s.s = omega arith in (rw (← c.pair_at-s-end.ensures.0, e) c.loop-s.invariant.0, omega arith)

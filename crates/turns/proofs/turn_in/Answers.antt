@@ -5,9 +5,6 @@ use Rattle.turns.specs.Turns.{turn_in}
 use native.Mathlib.Omega.{arith}
 use Rattle.turns.proofs.turn_in.Goals as goal
 
-pub overflow_sub-result : goal.overflow_sub-result
-overflow_sub-result c = omega arith
-
 pub returns : goal.returns
 unfolding turn_in
 returns c = (rw c.set_in-s.ensures.0, omega arith, refl, omega arith)

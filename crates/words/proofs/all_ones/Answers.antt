@@ -10,18 +10,6 @@ use Rattle.words.proofs.all_ones.Goals as goal
 room : (n : ℕ) → n < 31 → 2 ^ n ≤ 2 ^ 30
 room n h = pow_mono {i = n} {j = 30} (omega arith)
 
-pub overflow_add-result : goal.overflow_add-result
-overflow_add-result c = omega (arith, room c.args.b c.requires.0, room c.args.n c.requires.1)
-
-pub overflow_add-result-2 : goal.overflow_add-result-2
-overflow_add-result-2 c = omega (arith, room c.args.b c.requires.0, room c.args.n c.requires.1)
-
-pub overflow_add-result-3 : goal.overflow_add-result-3
-overflow_add-result-3 c = rw c.ones.ensures (omega (arith, room c.args.b c.requires.0, room c.args.n c.requires.1))
-
-pub overflow_add-result-4 : goal.overflow_add-result-4
-overflow_add-result-4 c = rw (c.ones.ensures, c.ones-2.ensures) (omega (arith, room c.args.b c.requires.0, room c.args.n c.requires.1))
-
 pub returns : goal.returns
 unfolding all_ones
 returns c =

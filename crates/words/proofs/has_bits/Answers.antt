@@ -10,6 +10,3 @@ returns-then-w-eq32 c =
     let a = c.args in
     let h : a.word < 2 ^ a.w = rw c.if-w-eq32.true c.ranges.word.fits in
     sym (lt-ltb a.word (2 ^ a.w) h)
-
-pub returns : goal.returns
-returns c = simp c.two_to.ensures

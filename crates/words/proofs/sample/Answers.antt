@@ -8,47 +8,47 @@ use Rattle.basis.proofs.FieldLaws.{field_below}
 use Rattle.basis.proofs.Numbers.{below_pow}
 use Rattle.words.proofs.Joins.{exponent_below}
 use Rattle.words.proofs.Parts.{from_parts, any_bit}
-use Rattle.codes.specs.Codes.{row}
 use borrow.Author.Rules.{rules}
 use Rattle.words.proofs.sample.Goals as goal
 
 pub overflow_add-e : goal.overflow_add-e
 overflow_add-e c =
-    let b : c.bits.result < 2 ^ 7 = rw c.bits.ensures (field_below _ _ _ 7 (omega arith)) in
-    omega (arith, below_pow _ 4 c.requires.9 c.requires.3)
-
-pub signed_fraction-m-requires : goal.signed_fraction-m-requires
-signed_fraction-m-requires c =
-    (omega arith, rw c.bits-q.ensures (field_below _ _ _ _ (search rules)))
-
-pub power-x-requires : goal.power-x-requires
-power-x-requires c =
-    let b : c.bits.result < 2 ^ 7 = rw c.bits.ensures (field_below _ _ _ 7 (omega arith)) in
-    let a = c.args in
     let f = c.requires in
-    omega (arith, mul-le-mul {n₁ = a.base} {m₁ = a.c + c.bits.result} {n₂ = 4} {m₂ = 256} f.7 (omega (arith, below_pow a.apart 4 f.9 f.3)), mul-le-mul f.7 f.8)
+    let b : c.bits.result < 2 ^ 7 = rw c.bits.ensures (field_below _ _ _ 7 (omega (arith, f.sound.small))) in
+    omega (arith, b, below_pow _ 4 f.c_bits f.sound.short)
 
-pub off_rule-off-requires : goal.off_rule-off-requires
-off_rule-off-requires c =
-    let d = c in
-    let a = d.args in
-    let f = d.requires in
-    let e : d.bits.result < 2 ^ (a.b - a.apart) = rw d.bits.ensures (field_below _ _ _ _ (search rules)) in
-    let s : d.bits-s.result < 2 ^ 1 = rw d.bits-s.ensures (field_below _ _ _ 1 (omega arith)) in (
-      omega arith,
-      omega arith,
-      omega arith,
-      omega arith,
-      exponent_below f.2 f.9 e,
-      rw d.bits-q.ensures (field_below _ _ _ _ (search rules)),
-      any_bit (a.b - a.apart) a.n (a.width - 1 - a.b - a.n) a.c a.word {at = a.width - a.apart - 1} {w = a.width - a.apart} (omega arith) (omega arith) f.10
-          d.bits-s.ensures d.bits.ensures d.bits-q.ensures c.bits-2.ensures,
+pub signed_fraction-requires : goal.signed_fraction-requires
+signed_fraction-requires c =
+    (omega (arith, c.requires.sound.few), rw c.bits-q.ensures (field_below _ _ _ _ (search rules)))
+
+pub power-requires : goal.power-requires
+power-requires c =
+    let r = c.args.r in
+    let f = c.requires in
+    let s = f.sound in
+    let b : c.bits.result < 2 ^ 7 = rw c.bits.ensures (field_below _ _ _ 7 (omega (arith, s.small))) in
+    omega (arith, s.few, mul-le-mul {n₁ = r.base} {m₁ = c.args.c + c.bits.result} {n₂ = 4} {m₂ = 256} s.hex (omega (arith, b, below_pow r.apart 4 f.c_bits s.short)), mul-le-mul s.hex s.half)
+
+pub off_rule-requires : goal.off_rule-requires
+off_rule-requires c =
+    let r = c.args.r in
+    let f = c.requires in
+    let s = f.sound in
+    let e : c.bits.result < 2 ^ (r.exponent - r.apart) = rw c.bits.ensures (field_below _ _ _ _ (search rules)) in
+    let one : c.bits-s.result < 2 ^ 1 = rw c.bits-s.ensures (field_below _ _ _ 1 (omega arith)) in (
+      s.some,
+      omega (arith, s.few),
+      omega (arith, s.small),
+      omega (arith, one),
+      exponent_below s.inside f.c_bits e,
+      rw c.bits-q.ensures (field_below _ _ _ _ (search rules)),
+      any_bit (r.exponent - r.apart) r.fraction (r.width - 1 - r.exponent - r.fraction) c.args.c c.args.word {at = r.width - r.apart - 1} {w = r.width - r.apart}
+          (omega (arith, s.whole, s.inside)) (omega (arith, s.whole, s.inside)) f.word_bits
+          c.bits-s.ensures c.bits.ensures c.bits-q.ensures c.bits-last.ensures,
     )
 
 pub returns : goal.returns
 returns c =
-    let d = c in
-    let a = d.args in
-    from_parts (row 0 a.width a.apart a.n a.base a.b a.bias a.kind) a.c a.word
-    d.bits-s.ensures d.bits.ensures d.bits-q.ensures c.bits-2.ensures
-    (search rules ∙ c.signed_fraction-m.ensures) (search rules ∙ c.power-x.ensures) c.off_rule-off.ensures
+    from_parts c.args.r c.args.c c.args.word
+    c.bits-s.ensures c.bits.ensures c.bits-q.ensures c.bits-last.ensures
+    (search rules ∙ c.signed_fraction.ensures) (search rules ∙ c.power.ensures) c.off_rule.ensures

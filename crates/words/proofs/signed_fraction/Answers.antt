@@ -2,6 +2,7 @@
 -- Assumes nothing.
 use Prim.Native.Nat.{ℕ, ◌<◌, ◌^◌}
 use mathlib.Core.Path.{◌∙◌}
+use Rattle.std.proofs.Common.{inl, inr}
 use native.Mathlib.Omega.{arith}
 use Rattle.basis.proofs.Numbers.{below_pow}
 use Rattle.words.specs.Words.{signed_fraction}
@@ -20,17 +21,13 @@ with_sign-requires c =
 pub with_sign-requires-in-SignMagnitude : goal.with_sign-requires-in-SignMagnitude
 with_sign-requires-in-SignMagnitude c = let f = c.requires in (low f.0 f.1, low f.0 f.1)
 
-pub with_sign-requires-in-Justified : goal.with_sign-requires-in-Justified
-with_sign-requires-in-Justified c = let f = c.requires in (low f.0 f.1, low f.0 f.1)
-
 pub returns-in-OnesComplement : goal.returns-in-OnesComplement
 unfolding signed_fraction
 returns-in-OnesComplement c = rw c.in-OnesComplement.is (search rules ∙ c.with_sign.ensures ∙ rw c.ones.ensures)
 
 pub returns-in-SignMagnitude : goal.returns-in-SignMagnitude
 unfolding signed_fraction
-returns-in-SignMagnitude c = rw c.in-SignMagnitude.is (search rules ∙ c.with_sign-in-SignMagnitude.ensures)
-
-pub returns-in-Justified : goal.returns-in-Justified
-unfolding signed_fraction
-returns-in-Justified c = rw c.in-Justified.is (search rules ∙ c.with_sign-in-Justified.ensures)
+returns-in-SignMagnitude c = elim c.in-SignMagnitude.is [
+  | inl e ↦ rw e (search rules ∙ c.with_sign-in-SignMagnitude.ensures)
+  | inr e ↦ rw e (search rules ∙ c.with_sign-in-SignMagnitude.ensures)
+]

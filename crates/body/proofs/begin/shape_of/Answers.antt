@@ -5,4 +5,4 @@ use Rattle.body.proofs.begin.shape_of.Goals as goal
 
 pub returns : goal.returns
 unfolding shape_of
-returns c = rw c.scans_of-block.ensures
+returns c = rw (c.from.ensures, c.from-2.ensures, c.scans_of.ensures)

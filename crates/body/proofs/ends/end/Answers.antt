@@ -15,8 +15,8 @@ pub returns-then-s-ne0 : goal.returns-then-s-ne0
 unfolding ended one_end halted answered pick
 returns-then-s-ne0 c = search (tests, c.if-s-ne0.true, c.stop_refusal.ensures)
 
-pub overflow_add-t : goal.overflow_add-t
-overflow_add-t c =
+pub overflow_add-result : goal.overflow_add-result
+overflow_add-result c =
     let s = c.args.s in
     let h = due_ends _ _ _ _ (sym c.due.ensures ∙ c.if-due.true) in
     omega (arith, h, div-le_self s.place s.shape.scan, c.well_formed)

@@ -4,11 +4,7 @@ use Rattle.body.specs.Ends.{per_scan}
 use mathlib.Core.Path.{sym, ◌∙◌}
 use native.Mathlib.Nat.{mul-one}
 use Rattle.stream.proofs.Readers.{per_four, per_one}
-use native.Mathlib.Omega.{arith}
 use Rattle.body.proofs.ends.per_scan.Goals as goal
-
-pub nonzero_div-result-else-w-eq10 : goal.nonzero_div-result-else-w-eq10
-nonzero_div-result-else-w-eq10 c = omega (arith, c.group-w.ensures, c.requires)
 
 pub returns-then-w-eq10 : goal.returns-then-w-eq10
 unfolding per_scan

@@ -13,10 +13,6 @@ pub returns-then-block-eq0 : goal.returns-then-block-eq0
 unfolding shut pick ◌and◌ ◌or◌
 returns-then-block-eq0 c = search (tests, c.if-block-eq0.true, c.if-scans-eq0.false)
 
-pub returns-then-scans-block-ne0 : goal.returns-then-scans-block-ne0
-unfolding shut pick ◌and◌ ◌or◌
-returns-then-scans-block-ne0 c = search (tests, c.if-scans-block-ne0.true, c.if-block-eq0.false, c.if-scans-eq0.false)
-
 pub returns : goal.returns
 unfolding shut pick ◌and◌ ◌or◌
-returns c = search (tests, c.if-scans-block-ne0.false, c.if-block-eq0.false, c.if-scans-eq0.false)
+returns c = search (tests, c.if-block-eq0.false, c.if-scans-eq0.false)

@@ -5,4 +5,4 @@ use Rattle.body.proofs.ends.tally.Goals as goal
 
 pub returns : goal.returns
 unfolding tally
-returns c = rw (c.window_of.ensures, c.product-n.ensures, c.per_scan.ensures)
+returns c = rw (c.window_of.ensures, c.from.ensures, c.from-2.ensures, c.per_scan.ensures)

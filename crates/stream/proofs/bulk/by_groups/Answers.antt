@@ -11,9 +11,6 @@ returns-then-g-eq0 c =
     let e = c.if-g-eq0.true in
     (record { value = rw e c.groups15.ensures.value; out_after = rw e c.groups15.ensures.out_after })
 
-pub overflow_sub-g : goal.overflow_sub-g
-overflow_sub-g c = c.requires c.if-g-eq0.false
-
 pub returns : goal.returns
 unfolding value_in words_of pick
 returns c =

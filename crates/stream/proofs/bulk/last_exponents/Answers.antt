@@ -14,21 +14,6 @@ pub returns-then-g-ne0 : goal.returns-then-g-ne0
 unfolding last_exponents pick
 returns-then-g-ne0 c = rw (eq-eqb c.args.w 10 c.if-w-ne10.false, ne_eqb c.args.g 0 c.if-g-ne0.true)
 
-pub overflow_sub-k : goal.overflow_sub-k
-overflow_sub-k c = omega (arith, c.requires c.if-w-ne10.false c.if-g-ne0.false)
-
-pub overflow_mul-k : goal.overflow_mul-k
-overflow_mul-k c = omega (arith, c.requires c.if-w-ne10.false c.if-g-ne0.false, c.well_formed)
-
-pub bounds-bytes-k : goal.bounds-bytes-k
-bounds-bytes-k c = omega (arith, c.requires c.if-w-ne10.false c.if-g-ne0.false)
-
-pub overflow_add-k : goal.overflow_add-k
-overflow_add-k c = omega (arith, c.requires c.if-w-ne10.false c.if-g-ne0.false, c.well_formed)
-
-pub bounds-bytes-k-2 : goal.bounds-bytes-k-2
-bounds-bytes-k-2 c = omega (arith, c.requires c.if-w-ne10.false c.if-g-ne0.false)
-
 pub returns : goal.returns
 unfolding last_exponents pick
 returns c =

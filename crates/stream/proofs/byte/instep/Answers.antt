@@ -15,4 +15,4 @@ returns-then-s c = search tests
 
 pub returns : goal.returns
 unfolding instep ◌and◌ ◌or◌
-returns c = search (tests, c.wrapping_add_u32.ensures, c.shift.ensures)
+returns c = search (tests, c.shift.ensures)

@@ -1,20 +1,30 @@
 -- `stream::byte::low` meets its contract.
 -- Assumes nothing.
-use Rattle.std.proofs.Common.{◌≡◌, arith}
+use Rattle.std.proofs.Common.{◌≤◌, ◌<◌, ◌^◌, arith, sym}
+use native.Mathlib.Nat.{mod-eq_of_lt, lt_of_lt_of_le}
+use Rattle.std.proofs.Math.Nat.{pow-le-pow_right}
 use Rattle.scan.specs.Step.{low}
 use Rattle.stream.proofs.byte.low.Goals as goal
 
-pub returns-then-w-eq1 : goal.returns-then-w-eq1
+pub returns-in-0 : goal.returns-in-0
 unfolding low
-returns-then-w-eq1 c = rw c.if-w-eq1.true
+returns-in-0 c = rw c.in-0.is (omega arith)
 
-pub returns-then-w-eq2 : goal.returns-then-w-eq2
+pub returns-in-1 : goal.returns-in-1
 unfolding low
-returns-then-w-eq2 c = rw c.if-w-eq2.true
+returns-in-1 c = rw c.in-1.is
 
-pub returns : goal.returns
+pub returns-in-2 : goal.returns-in-2
 unfolding low
-returns c =
-    let z = c in
-    let e : z.args.w ≡ 4 = omega (arith, z.requires, c.if-w-eq2.false, c.if-w-eq1.false) in
-    rw e (omega (arith, z.well_formed))
+returns-in-2 c = rw c.in-2.is
+
+pub returns-in-3 : goal.returns-in-3
+unfolding low
+returns-in-3 c = rw c.in-3.is
+
+pub returns-in_default : goal.returns-in_default
+unfolding low
+returns-in_default c =
+    let h : 4 ≤ c.args.w = omega arith in
+    let l : c.args.held < 256 ^ 4 = omega (arith, c.well_formed) in
+    sym (mod-eq_of_lt (lt_of_lt_of_le l (pow-le-pow_right (omega arith) h)))

@@ -1,9 +1,9 @@
 -- `stream::byte::still` meets its contract.
 -- Assumes nothing.
-use Rattle.scan.specs.Step.{still, none}
+use Rattle.scan.specs.Step.{still}
 use Rattle.basis.proofs.Rules.{tests}
 use Rattle.stream.proofs.byte.still.Goals as goal
 
 pub returns : goal.returns
-unfolding still none
-returns c = search tests
+unfolding still
+returns g c = search tests

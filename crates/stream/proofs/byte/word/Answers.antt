@@ -1,13 +1,8 @@
 -- `stream::byte::word` meets its contract.
 -- Assumes nothing.
 use Rattle.std.proofs.Common.{sym, ◌∙◌}
-use Rattle.stream.proofs.Spots.{word_gives, word_leads, word_none, word_bytes_low}
+use Rattle.stream.proofs.Spots.{word_gives, word_leads, word_none}
 use Rattle.stream.proofs.byte.word.Goals as goal
-
-pub low-requires : goal.low-requires
-low-requires c =
-    let z = c in
-    rw c.word_bytes.ensures (word_bytes_low z.args.s.shape.code _ z.requires.code_value.0 z.requires.code_value.1)
 
 pub returns-then-word_ends : goal.returns-then-word_ends
 returns-then-word_ends c =

@@ -10,4 +10,4 @@ pub returns : goal.returns
 unfolding seventh moved_by
 returns c =
     let z = c in
-    rw (c.four_at.ensures, four_there z.args.bytes.now (z.args.i + 3) (omega arith), c.typed-t.ensures)
+    rw (c.four_at.ensures, four_there z.args.bytes.now (z.args.i + 3) (omega arith), c.typed.ensures)

@@ -9,14 +9,14 @@ pub returns-then-full : goal.returns-then-full
 unfolding soundb pick
 returns-then-full c = rw (sym c.full.ensures ∙ c.if-full.true)
 
-pub returns-then-phased : goal.returns-then-phased
+pub returns-then-not-synced : goal.returns-then-not-synced
 unfolding soundb pick
-returns-then-phased c = rw (sym c.full.ensures ∙ c.if-full.false, sym c.synced.ensures ∙ c.if-synced.true, sym c.phased.ensures ∙ c.if-phased.true, c.instep.ensures, c.seventh.ensures)
+returns-then-not-synced c = rw (sym c.full.ensures ∙ c.if-full.false, sym c.synced.ensures ∙ c.if-not-synced.true)
 
-pub returns-then-synced : goal.returns-then-synced
+pub returns-then-not-phased : goal.returns-then-not-phased
 unfolding soundb pick
-returns-then-synced c = rw (sym c.full.ensures ∙ c.if-full.false, sym c.synced.ensures ∙ c.if-synced.true, sym c.phased.ensures ∙ c.if-phased.false)
+returns-then-not-phased c = rw (sym c.full.ensures ∙ c.if-full.false, sym c.synced.ensures ∙ c.if-not-synced.false, sym c.phased.ensures ∙ c.if-not-phased.true)
 
 pub returns : goal.returns
 unfolding soundb pick
-returns c = rw (sym c.full.ensures ∙ c.if-full.false, sym c.synced.ensures ∙ c.if-synced.false)
+returns c = rw (sym c.full.ensures ∙ c.if-full.false, sym c.synced.ensures ∙ c.if-not-synced.false, sym c.phased.ensures ∙ c.if-not-phased.false, c.instep.ensures, c.seventh.ensures)

@@ -1,9 +1,8 @@
 -- `trace_body::report` meets its contract.
 -- Assumes nothing.
-use mathlib.Core.Path.{refl}
 use Rattle.trace_body.specs.Calls.{report}
 use Rattle.trace_body.proofs.closing.report.Goals as goal
 
 pub returns : goal.returns
 unfolding report
-returns c = refl
+returns c = rw c.from.ensures

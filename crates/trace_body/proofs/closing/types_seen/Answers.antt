@@ -11,4 +11,4 @@ returns-then-n-eq0 c = rw (eq-eqb _ _ c.if-n-eq0.true)
 
 pub returns : goal.returns
 unfolding types_seen pick
-returns c = rw (ne_eqb _ _ c.if-n-eq0.false, c.turn_at-u.ensures.0)
+returns c = rw (ne_eqb _ _ c.if-n-eq0.false, c.from.ensures, c.turn_at.ensures.0)

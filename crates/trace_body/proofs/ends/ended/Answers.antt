@@ -1,12 +1,13 @@
 -- `trace_body::ended` meets its contract.
 -- Assumes nothing.
-use Rattle.trace_body.proofs.Choices.{ended_tally}
-use borrow.Author.Tests.{eq-eqb, le-ltb}
+use borrow.Author.Tests.{eq-eqb, lt-ltb, le-ltb}
 use mathlib.Core.Path.{sym, ◌∙◌}
-use Rattle.trace_body.specs.Ends.{ended}
 use Rattle.basis.specs.Choice.{pick}
 use Rattle.basis.proofs.Rules.{tests}
+use Rattle.trace_body.proofs.Choices.{ended_tally}
+use Rattle.trace_body.specs.Ends.{ended}
 use Rattle.trace_body.proofs.ends.ended.Goals as goal
+use Rattle.trace_body.proofs.ends.ended.Goals.{then-k-via-then-k, then-k-via-else-k+then-s-lt20}
 
 pub returns-then-s-ne0 : goal.returns-then-s-ne0
 unfolding ended pick
@@ -14,11 +15,11 @@ returns-then-s-ne0 c = search (tests, c.if-s-ne0.true)
 
 pub returns-then-k : goal.returns-then-k
 unfolding ended pick
-returns-then-k c = search (tests, c.if-k.true, c.if-s-ne0.false, c.halted.ensures)
-
-pub returns-then-s-lt20 : goal.returns-then-s-lt20
-unfolding ended pick
-returns-then-s-lt20 c = search (tests, c.if-s-lt20.true, c.if-k.false, c.if-s-ne0.false, c.halted-then-s-lt20.ensures)
+returns-then-k c =
+    elim c.then-k.branch [
+      | then-k-via-then-k w ↦ rw (eq-eqb _ _ c.if-s-ne0.false, w.if-k.true) c.halted.ensures
+      | then-k-via-else-k+then-s-lt20 w ↦ rw (eq-eqb _ _ c.if-s-ne0.false, w.if-k.false, lt-ltb _ _ w.if-s-lt20.true) c.halted.ensures
+    ]
 
 pub returns-then-uneven : goal.returns-then-uneven
 unfolding ended pick

@@ -1,13 +1,14 @@
--- `trace_stream::step` meets its contract.
+-- `trace_stream::byte::step` meets its contract.
 -- Assumes nothing.
 use borrow.Author.Tests.{eq-eqb, ne_eqb, lt-ltb, le-ltb}
-use Rattle.trace.specs.Step.{step}
+use Rattle.scan.specs.Step as Scan
+use Rattle.trace.specs.Step.{still, step}
 use Rattle.basis.specs.Choice.{pick}
 use Rattle.basis.proofs.Rules.{tests}
 use Rattle.trace_stream.proofs.byte.step.Goals as goal
 
 pub returns-then-s-ne0 : goal.returns-then-s-ne0
-unfolding step pick
+unfolding step still Scan.still pick
 returns-then-s-ne0 c = search (tests, c.if-s-ne0.true, c.still.ensures)
 
 pub returns-then-s-eq4294967295 : goal.returns-then-s-eq4294967295

@@ -1,12 +1,12 @@
--- `trace_stream::writes` meets its contract.
+-- `trace_stream::byte::writes` meets its contract.
 -- Assumes nothing.
 use Rattle.turns.specs.Turns.{writes}
 use Rattle.trace_stream.proofs.byte.writes.Goals as goal
 
-pub returns-in-Digits : goal.returns-in-Digits
+pub returns-in-Some : goal.returns-in-Some
 unfolding writes
-returns-in-Digits c = rw (← c.packed-p.ensures, c.in-Digits.is)
+returns-in-Some c = rw (← c.packed.ensures, c.in-Some.is, c.from.ensures)
 
-pub returns-in-NoPair : goal.returns-in-NoPair
+pub returns-in-None : goal.returns-in-None
 unfolding writes
-returns-in-NoPair c = rw (← c.packed-p.ensures, c.in-NoPair.is)
+returns-in-None c = rw (← c.packed.ensures, c.in-None.is)

@@ -1,9 +1,0 @@
--- `trace_stream::moved` meets its contract.
--- Assumes nothing.
-use Rattle.trace.specs.Step.{moved_by, moved}
-use Rattle.basis.proofs.Rules.{tests}
-use Rattle.trace_stream.proofs.byte.moved.Goals as goal
-
-pub returns : goal.returns
-unfolding moved moved_by
-returns c = search (tests, c.shift.ensures)
