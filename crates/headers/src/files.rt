@@ -1,4 +1,5 @@
 // The header blocks and the sheet that the figures are about: files of data/, which `tools/images` writes.
+ghost use Rattle.std.specs.Prelude.{length};
 ghost use Rattle.io.specs.Counts.{IsPrefixLen};
 
 use std::fs::File;
@@ -7,7 +8,9 @@ use std::rt::Files;
 use std::str;
 
 // Reads a file to the front of the lent space, which is more than the files of data/ need, and answers what it has there; nothing where it cannot be opened.
-pub(crate) fn load<'a>(rt: &(impl Files + Eprint), name: &[u8], space: &'a mut [u8]) -> &'a [u8] {
+pub(crate) fn load<'a>(rt: &(impl Files + Eprint), name: &[u8], space: &'a mut [u8]) -> &'a [u8]
+    ensures { IsPrefixLen (length result.now) space.old }
+{
     // A name that is no text names no file.
     let path = str::from_utf8(name).unwrap_or("");
     let n = match File::open(rt, path) {
