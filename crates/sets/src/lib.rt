@@ -210,8 +210,12 @@ pub fn samples(b: &[u8], t: u8) -> usize
 fn quarters_of(x: u8) -> i32
     ensures { result ≡ quarters x }
 {
-    let magnitude = i32::from(x % 128);
-    if x / 128 == 0 { magnitude } else { -magnitude }
+    let magnitude = u32::from(x % 128);
+    if x / 128 == 0 {
+        basis::difference(magnitude, 0)
+    } else {
+        basis::difference(0, magnitude)
+    }
 }
 
 // What the descriptor of a set says.
