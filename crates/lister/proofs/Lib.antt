@@ -5,4 +5,5 @@ pub mod Walking
 pub mod Bytes
 pub mod Telling
 pub mod Hearing
+pub mod Halves
 pub mod Listed

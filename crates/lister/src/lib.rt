@@ -183,9 +183,9 @@ fn arrived(got: io::Result<usize>, buf: &[u8]) -> Option<usize>
 }
 
 // Lists the reel image that a reader holds: reads it and writes its lines. The buffers are of fixed size, so
-// that a reel of any length is listed in the same memory. What a read brought is two
-// portions at most, so that the lines of each have room. A proved loop has to end, so the reads are
-// counted, up to a number that no run uses up.
+// that a reel of any length is listed in the same memory. What a read brought is two portions, its halves,
+// so that the lines of each have room. A proved loop has to end, so the reads are counted, up to a number
+// that no run uses up.
 pub fn list<R: Read, W: Write>(input: &mut R, output: &mut W) -> io::Result<()> {
     let mut image = [0u8; 65536];
     let mut header = [0u8; 65536];
@@ -197,7 +197,8 @@ pub fn list<R: Read, W: Write>(input: &mut R, output: &mut W) -> io::Result<()> 
         let Some(n) = arrived(got, &image) else {
             break;
         };
-        for bytes in image[..n].chunks(32768) {
+        let (first, second) = image[..n].split_at(n / 2);
+        for bytes in [first, second] {
             let made = walk(progress, bytes, &mut header, &mut numbers, &mut lines);
             output.write_all(&lines[..made.length])?;
             progress = made.progress;

@@ -1,7 +1,7 @@
--- The parts of what a read brought are of 32,768 bytes at most.
+-- What is left of a read are its halves, of 32,768 bytes at most.
 -- Assumes nothing.
-use Rattle.std.proofs.Common.{◌≡◌}
+use Rattle.lister.proofs.Halves.{Short}
 use Rattle.lister.proofs.list.Given as goal
 
 abbrev pub invariant-loop-bytes : goal.invariant-loop-bytes
-invariant-loop-bytes g l = l.bytes-iterator.size ≡ 32768
+invariant-loop-bytes g l = Short l.bytes-items
