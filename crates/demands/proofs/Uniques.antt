@@ -10,6 +10,7 @@ unique = record {
   difference = λ κ a z z' e e'. one_answer;
   magnitude = λ κ a z z' e e'. one_answer;
   tell = λ κ a z z' e e'. one_answer;
+  told_from = λ κ a z z' e e'. one_answer;
   stop_refusal = λ κ a z z' e e'. one_answer;
   find = λ κ a z z' e e'. one_answer;
   group = λ κ a z z' e e'. one_answer;

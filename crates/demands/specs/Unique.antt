@@ -4,6 +4,7 @@
 use Rattle.basis.proofs.difference.Reads as basis-difference
 use Rattle.basis.proofs.magnitude.Reads as basis-magnitude
 use Rattle.refusals.proofs.tell.Reads as refusals-tell
+use Rattle.refusals.proofs.ToldFromRefusal.from.Reads as refusals-from
 use Rattle.refusals.proofs.stop_refusal.Reads as refusals-stop-refusal
 use Rattle.codes.proofs.find.Reads as codes-find
 use Rattle.codes.proofs.group.Reads as codes-group
@@ -120,6 +121,7 @@ pub record Unique : Type 0 where
   pub difference : OneAnswer basis-difference.Post
   pub magnitude : OneAnswer basis-magnitude.Post
   pub tell : OneAnswer refusals-tell.Post
+  pub told_from : OneAnswer refusals-from.Post
   pub stop_refusal : OneAnswer refusals-stop-refusal.Post
   pub find : OneAnswer codes-find.Post
   pub group : OneAnswer codes-group.Post
