@@ -15,6 +15,7 @@ use Rattle.basis.proofs.Uptos.{upto_more}
 use Rattle.words.specs.declared.Value.{Value}
 use Rattle.runs.specs.declared.Ran.{Ran}
 use Rattle.words.specs.Words.{off_one}
+use Rattle.runs.specs.Words.{words_in, plain_value}
 use Rattle.runs.specs.Runs.{offs, numbers, over, samples_in, ran, filled}
 use Rattle.runs.proofs.Writes.{take_two, drop_two, further}
 
@@ -183,3 +184,10 @@ unfolding ran filled samples_in
 loop_ends words word bs d h =
     let a = done_all d h in
     (rw (← d.least, a.0), rw (← d.least) a.1)
+
+-- the same of a code that is named otherwise
+pub said_ran : (n : ℕ) (bs : List ℕ) (out : List ℤ) {code named : ℕ} {r : Ran} → r ≡ ran (words_in n) (plain_value code n) bs out → code ≡ named → r ≡ ran (words_in n) (plain_value named n) bs out
+said_ran n bs out e i = rw (← i) e
+
+pub said_filled : (n : ℕ) (bs : List ℕ) (out : List ℤ) {code named : ℕ} {o : List ℤ} → o ≡ filled (words_in n) (plain_value code n) bs out → code ≡ named → o ≡ filled (words_in n) (plain_value named n) bs out
+said_filled n bs out e i = rw (← i) e

@@ -82,6 +82,10 @@ unfolding row_of find_in table pick byte_code
 narrow (is22 e) = record { row = row 0x0022 8 0 4 2 3 0 OnesComplement; found = rw e; apart = refl; width = refl; own = rw e }
 narrow (is42 e) = record { row = row 0x0042 8 0 5 4 2 0 SignMagnitude; found = rw e; apart = refl; width = refl; own = rw e }
 
+-- the table of a code that is named otherwise
+pub said_table : {code named : ℕ} {t : List ℕ} → t ≡ table_of code → code ≡ named → t ≡ table_of named
+said_table e i = rw (← i) e
+
 module _ {code : ℕ} (n : Narrow code) where
   -- c is not 0
   pub wide_c : (c word : ℕ) → (c ≡ 0 → ⊥) → word_of code c word ≡ Err Index

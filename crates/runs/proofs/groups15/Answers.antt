@@ -2,7 +2,6 @@
 -- Assumes nothing.
 use mathlib.Core.Path.{◌∙◌}
 use native.Mathlib.Omega.{arith}
-use borrow.Author.Rules.{rules}
 use Rattle.runs.specs.Words.{grouped_in, grouped_value}
 use Rattle.runs.proofs.Done.{done_from, done_self, done_wrote, counted_low, done_on, loop_ends}
 use Rattle.std.proofs.Common.{◌∙◌}

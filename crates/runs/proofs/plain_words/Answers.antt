@@ -1,10 +1,11 @@
--- `runs::plain_words` meets its contract: its loop keeps that the first k words are written.
+-- `runs::plain_words` meets its contract: its loop keeps that the first k words are written. That the word which is read is word k, and that the clause's code is P's, is found by search.
 -- Assumes nothing.
-use Rattle.std.proofs.Common.{◌∙◌, ap, arith}
-use Rattle.words.specs.Words.{value_of}
+use Rattle.std.proofs.Common.{arith}
+use Rattle.basis.specs.Choice.{pick}
 use Rattle.runs.specs.Words.{words_in, plain_value}
-use Rattle.runs.proofs.Chunks.{chunk_number}
-use Rattle.runs.proofs.Done.{done_none, done_wrote, took, counted_low, loop_ends}
+use Rattle.runs.proofs.Chunks.{chunk_at, chunk_first, word_value}
+use Rattle.std.proofs.lemmas.Grind.{common_steps}
+use Rattle.runs.proofs.Done.{done_none, done_wrote, took, counted_low, loop_ends, said_ran, said_filled}
 use Rattle.runs.proofs.plain_words.Goals as goal
 
 pub as_chunks-requires : goal.as_chunks-requires
@@ -22,11 +23,12 @@ unfolding words_in plain_value
 loop-k-preserved g c =
     let i = c.loop-k.invariant in
     let h = rw (took _ c.as_chunks.result.0.now c.min-n.ensures) at c.loop-k-test.true in
-    let n = chunk_number _ _ _ _ _ i.there h c.as_chunks.ensures.front c.word-item.is in
-    done_wrote i h (c.value.ensures ∙ ap (value_of g.P.Plain.CODE 0) n) c.put-off.ensures.value c.put-off.ensures.out_after
+    done_wrote i h (word_value g.P.Plain.CODE _ c.loop-k.k c.args.bytes.now c.value.ensures (grind (arith, common_steps, chunk_at, chunk_first, h, i.there))) c.put-off.ensures.value c.put-off.ensures.out_after
 
 pub returns-clause-value : goal.returns-clause-value
-returns-clause-value g c = (loop_ends _ _ _ c.loop-k.invariant (rw (took _ c.as_chunks.result.0.now c.min-n.ensures) at c.loop-k-test.false)).0
+unfolding pick
+returns-clause-value g c = said_ran _ _ _ (loop_ends _ _ _ c.loop-k.invariant (rw (took _ c.as_chunks.result.0.now c.min-n.ensures) at c.loop-k-test.false)).0 (grind (arith, common_steps))
 
 pub returns-clause-out_after : goal.returns-clause-out_after
-returns-clause-out_after g c = (loop_ends _ _ _ c.loop-k.invariant (rw (took _ c.as_chunks.result.0.now c.min-n.ensures) at c.loop-k-test.false)).1
+unfolding pick
+returns-clause-out_after g c = said_filled _ _ _ (loop_ends _ _ _ c.loop-k.invariant (rw (took _ c.as_chunks.result.0.now c.min-n.ensures) at c.loop-k-test.false)).1 (grind (arith, common_steps))

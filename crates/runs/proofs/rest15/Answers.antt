@@ -1,4 +1,4 @@
--- `runs::rest15` meets its contract: its loop keeps that the first k words are written.
+-- `runs::rest15` meets its contract: its loop keeps that the first k words are written. That the word which is read is word k is found by search.
 -- Assumes nothing.
 use Prim.Native.Nat.{◌+◌, ◌%◌}
 use mathlib.Core.Path.{◌≡◌, ◌∙◌}
@@ -6,11 +6,11 @@ use native.Mathlib.Omega.{arith}
 use Rattle.basis.specs.Fields.{field}
 use Rattle.runs.specs.Words.{words_in, exponent_of, rest_value}
 use Rattle.runs.proofs.Done.{done_none, done_wrote, took, counted_low, loop_ends}
-use Rattle.runs.proofs.Chunks.{chunk_number}
+use Rattle.runs.proofs.Bytes.{written_two}
+use Rattle.runs.proofs.Chunks.{chunk_at, chunk_first, two_value}
+use Rattle.std.proofs.lemmas.Grind.{common_steps}
 use Rattle.std.proofs.Common.{◌+◌, ◌∙◌}
-use Rattle.std.proofs.Common.{refl, ◌*◌}
-use Rattle.basis.specs.Digits.{written, byte_in}
-use Rattle.words.proofs.Tape.{two}
+use Rattle.std.proofs.Common.{refl}
 use Rattle.runs.proofs.rest15.Goals as goal
 
 pub loop-k-init : goal.loop-k-init
@@ -26,8 +26,8 @@ loop-k-preserved c =
     let i = c.loop-k.invariant in
     let turn : (c.args.j % 4 + c.loop-k.k) % 4 ≡ (c.args.j + c.loop-k.k) % 4 = omega arith in
     let h = rw (took _ c.as_chunks.result.0.now c.min-n.ensures) at c.loop-k-test.true in
-    let n : c.from_be_bytes.result ≡ written 256 (byte_in c.args.bytes.now) (2 * c.loop-k.k) 2 = c.from_be_bytes.ensures ∙ two _ ∙ chunk_number _ _ _ _ _ i.there h c.as_chunks.ensures.front refl in
-    done_wrote i h (c.value15-w.ensures ∙ rw (n, turn)) c.put-off.ensures.value c.put-off.ensures.out_after
+    let n = two_value 0x0015 _ c.loop-k.k c.args.bytes.now c.value15-w.ensures (grind (arith, common_steps, chunk_at, chunk_first, written_two, h, i.there)) in
+    done_wrote i h (n ∙ rw turn refl) c.put-off.ensures.value c.put-off.ensures.out_after
 
 pub returns : goal.returns
 returns c =

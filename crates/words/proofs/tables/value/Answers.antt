@@ -1,13 +1,13 @@
 -- `words::tables::value` meets its contract.
 -- Assumes nothing.
-use Rattle.std.proofs.Common.{ℕ, suc, ℤ, ◌≡◌, ◌/◌, ◌%◌, ◌-◌, Bool, List, ◌∙◌, arith}
+use Rattle.std.proofs.Common.{ℕ, suc, ℤ, ◌≡◌, ◌/◌, ◌%◌, ◌-◌, Bool, List, arith}
 use lib.ListN.{get_or}
 use mir.Syntax.{w32}
 use mir.Val.{to_z}
 use Rattle.basis.specs.Choice.{pick}
 use Rattle.words.specs.Words.{value_of}
 use Rattle.words.specs.Tables.{byte_code, signed_of, tabled}
-use borrow.Author.Rules.{rules}
+use Rattle.std.proofs.lemmas.Grind.{common_steps}
 use Rattle.words.proofs.tables.value.Goals as goal
 
 -- the library's number of 32 bits in two's complement
@@ -22,6 +22,4 @@ unfolding tabled
 from-entry table code b h s p q = rw (p, q, s, h)
 
 pub returns : goal.returns
-returns c =
-    from-entry _ _ _ c.entry-e.ensures c.off-off.ensures
-    (search rules ∙ c.cast_signed.ensures ∙ signed _) (search rules ∙ c.cast_signed-2.ensures ∙ signed _)
+returns c = from-entry _ _ _ c.entry-e.ensures c.off-off.ensures (grind (arith, common_steps, signed)) (grind (arith, common_steps, signed))
