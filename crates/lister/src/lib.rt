@@ -92,7 +92,9 @@ impl Run<'_> {
 }
 
 // All of a portion, its lines one after another at the start of their buffer. The buffers have the room
-// that `has_room` asks for.
+// that `has_room` asks for. It stays a function of its own: in `reel` LLVM then sees that what `numbers` held
+// before is not read, and does not clear them.
+#[inline(never)]
 fn walk(
     start: Progress,
     bytes: &[u8],
