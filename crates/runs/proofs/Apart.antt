@@ -6,6 +6,7 @@ use mir.Val.{bool_byte}
 use mathlib.Core.Bool.{Bool}
 use Rattle.basis.specs.Digits.{byte_in}
 use Rattle.basis.specs.Upto.{upto}
+use Rattle.basis.proofs.Uptos.{upto_same}
 use Rattle.words.specs.declared.Value.{Value}
 use Rattle.words.specs.Words.{value_of, off_one}
 use Rattle.words.specs.Tables.{byte_code, tabled}
@@ -57,3 +58,8 @@ pub marked_first : (table : List ℕ) (code : ℕ) (bs : List ℕ) (n : ℕ) →
 unfolding marked off_one byte_value tabled_at tabled
 marked_first table code bs n h =
     rw (length-take-le n bs h) (offs_same _ _ n (λ k l. ap (λ (b : ℕ). off_one (value_of (byte_code code) 0 b)) (sym (get_or-take n bs k 0 l))))
+
+-- what a table says has the marks of the code, however many bytes are asked for
+pub marked_each : (table : List ℕ) (code : ℕ) (bs : List ℕ) (n : ℕ) → offs (tabled_at table code bs) n ≡ offs (byte_value code bs) n
+unfolding offs off_one byte_value tabled_at tabled
+marked_each table code bs n = upto_same _ _ _ _ (λ k. refl) n
