@@ -5,5 +5,4 @@ pub mod Walking
 pub mod Bytes
 pub mod Telling
 pub mod Hearing
-pub mod Halves
 pub mod Listed

@@ -1,7 +1,7 @@
 // The lister: a reel image that comes in portions, a line for each file, and the last line.
 #![tactic(auto)]
 
-ghost use Rattle.std.specs.Prelude.{◌≡◌, ◌<◌, true, length, IfSome};
+ghost use Rattle.std.specs.Prelude.{◌≡◌, ◌<◌, true, length, IfOk, IfSome};
 ghost use Rattle.std.proofs.lemmas.List.Edits.{sets};
 ghost use Rattle.io.specs.Counts.{IsPrefixLen};
 ghost use Rattle.listing.specs.Lent.{line_in, line_end};
@@ -92,9 +92,7 @@ impl Run<'_> {
 }
 
 // All of a portion, its lines one after another at the start of their buffer. The buffers have the room
-// that `has_room` asks for. It stays a function of its own: in `reel` LLVM then sees that what `numbers` held
-// before is not read, and does not clear them.
-#[inline(never)]
+// that `has_room` asks for.
 fn walk(
     start: Progress,
     bytes: &[u8],
@@ -184,6 +182,27 @@ fn arrived(got: io::Result<usize>, buf: &[u8]) -> Option<usize>
     }
 }
 
+// A portion of what was read: writes its lines, and answers how far the reel has been read then. The buffers are
+// those of `walk`, and hold what it left, written or not. It stays a function of its own: LLVM then sees that what
+// `numbers` held before is not read, and does not clear them for each image.
+#[inline(never)]
+fn list_portion<W: Write>(
+    progress: Progress,
+    bytes: &[u8],
+    header: &mut [u8],
+    numbers: &mut [i32],
+    lines: &mut [u8],
+    output: &mut W,
+) -> io::Result<Progress>
+    requires { roomy (length bytes.now) header.old numbers.old lines.old ≡ true }
+    ensures progress { IfOk result (λ p. p ≡ (walked progress bytes.now header.old numbers.old).progress) }
+    ensures buffers { (header.new ≡ (walked progress bytes.now header.old numbers.old).header) × (numbers.new ≡ (walked progress bytes.now header.old numbers.old).numbers) × (lines.new ≡ sets lines.old 0 (walked progress bytes.now header.old numbers.old).out) }
+{
+    let made = walk(progress, bytes, header, numbers, lines);
+    output.write_all(&lines[..made.length])?;
+    Ok(made.progress)
+}
+
 // Lists the reel image that a reader holds: reads it and writes its lines. The buffers are of fixed size, so
 // that a reel of any length is listed in the same memory. What a read brought is two portions, its halves,
 // so that the lines of each have room. A proved loop has to end, so the reads are counted, up to a number
@@ -201,9 +220,14 @@ pub fn list<R: Read, W: Write>(input: &mut R, output: &mut W) -> io::Result<()> 
         };
         let (first, second) = image[..n].split_at(n / 2);
         for bytes in [first, second] {
-            let made = walk(progress, bytes, &mut header, &mut numbers, &mut lines);
-            output.write_all(&lines[..made.length])?;
-            progress = made.progress;
+            progress = list_portion(
+                progress,
+                bytes,
+                &mut header,
+                &mut numbers,
+                &mut lines,
+                output,
+            )?;
         }
     }
     let length = finish(progress, &mut lines);
