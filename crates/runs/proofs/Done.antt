@@ -169,6 +169,10 @@ module _ {f : ℕ → Value} {a n : ℕ} {out₀ out : List ℤ} {off k : ℕ} (
 pub took : {X : Type 0} {n : ℕ} (b : ℕ) (ws : List X) → n ≡ min (length ws) b → length (take n ws) ≡ n
 took {n = n} b ws e = length-take-le n ws (omega (arith, e, min-le_left (length ws) b))
 
+-- the same of a count that is known to be no more than the words
+pub took_there : {X : Type 0} {n a : ℕ} (ws : List X) → length ws ≡ a → n ≤ a → length (take n ws) ≡ n
+took_there {n = n} ws e h = length-take-le n ws (rw e h)
+
 -- off-rule words counted apart: as many as there are, at each turn of the loop
 pub done_zero : (f : ℕ → Value) (a n : ℕ) (out : List ℤ) → n ≡ min a (length out / 2) → Done f a n out out (offs f 0) 0
 unfolding offs upto
